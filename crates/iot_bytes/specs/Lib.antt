@@ -1,0 +1,11 @@
+pub mod Adapter
+pub mod Causes
+pub mod Decimals
+pub mod Fill
+pub mod Frames
+pub mod Held
+pub mod Hexes
+pub mod Lines
+pub mod Streams
+pub mod Tape
+pub mod Tokens
