@@ -1,0 +1,4 @@
+pub mod Lengths
+pub mod Elements
+pub mod Values
+pub mod Fields

@@ -1,0 +1,5 @@
+pub mod Element
+pub mod Reading
+pub mod Fields
+pub mod Number
+pub mod Laws
