@@ -1,0 +1,16 @@
+pub mod ListLemmas
+pub mod Looking
+pub mod Runs
+pub mod ManagerLemmas
+pub mod ProfileLemmas
+pub mod ResultLemmas
+pub mod Accepting
+pub mod Executing
+pub mod Validity
+pub mod Restoring
+pub mod Progress
+pub mod Counting
+pub mod Computing
+pub mod Flags
+pub mod Prefixes
+pub mod Happening

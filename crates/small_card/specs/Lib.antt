@@ -1,0 +1,16 @@
+pub mod Lists
+pub mod Cards
+pub mod Profiles
+pub mod Managers
+pub mod Packages
+pub mod Units
+pub mod Histories
+pub mod Checks
+pub mod Ranges
+pub mod Valid
+pub mod Legal
+pub mod Steps
+pub mod Examples
+pub mod Laws
+pub mod Prefixes
+pub mod Plain

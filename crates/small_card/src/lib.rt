@@ -1,0 +1,30 @@
+//! The small card: the types of eSIM management for IoT devices after SGP.32, the definitions of how
+//! the card behaves, and their laws. The rules are told in `docs/CARD.md`.
+#![tactic(auto)]
+
+pub mod codes;
+mod copies;
+mod items;
+mod laws;
+mod plain_eims;
+mod plain_profiles;
+mod types;
+mod worked;
+
+pub use laws::{
+    counters_look_back, first_units_legal, never_returns, one_more_unit, rollback_restores,
+    stays_valid, takes_once,
+};
+pub use plain_eims::{PlainEims, execute_ecos};
+pub use plain_profiles::{PlainProfiles, execute_psmos};
+pub use types::{
+    Answer, Armed, Body, Command, Eco, EimEntry, EimLine, Item, Package, PackageResult, Profile,
+    Psmo, Refused, Signed,
+};
+pub use worked::{
+    checks_worked, counters_worked, eim_operations_worked, eims_worked, history_worked,
+    packages_worked, profile_operations_worked, rollback_worked,
+};
+
+#[cfg(test)]
+mod tests;
