@@ -1,0 +1,10 @@
+pub mod Loop
+pub mod Holding
+pub mod Histories
+pub mod Going
+pub mod Broken
+pub mod Ending
+pub mod SpelledValues
+pub mod SpelledTables
+pub mod SpelledRequests
+pub mod SpelledPackages

@@ -1,0 +1,9 @@
+pub mod Words
+pub mod Requests
+pub mod Replies
+pub mod Reading
+pub mod Cards
+pub mod Holds
+pub mod Status
+pub mod Ends
+pub mod Steps

@@ -1,0 +1,32 @@
+ghost use Rattle.std.specs.Prelude.{◌≡◌, ◌≤◌, ◌↔◌, map, string_bytes, None};
+ghost use Rattle.iot_bytes.specs.Causes.{Rose};
+ghost use Rattle.iot_program.specs.Words.{form_of};
+ghost use Rattle.iot_program.specs.Ends.{Ended};
+
+use crate::serve::serve;
+use crate::words::{Form, form_of_words};
+use iot_bytes::{Sink, Source};
+use std::alloc::Global;
+
+/// The status of a faulty command line.
+pub const FAULTY_WORDS: u8 = 1;
+
+/// Does what the words ask for, over a source and a sink, and gives the exit status.
+pub fn run<S: Source, K: Sink>(alloc: Global, words: &[String], source: &mut S, sink: &mut K) -> u8
+    // What was read and sent, by the form of the words and the status.
+    ensures ended { Ended (form_of (map string_bytes words.now)) result (S.rest source.old) (S.rest source.new) (K.sent sink.old) (K.sent sink.new) }
+    // Status 1 comes exactly where the words have no form, and then nothing was read or written.
+    ensures faulty_words { (result ≡ 1) ↔ (form_of (map string_bytes words.now) ≡ None) }
+    ensures untouched_source { result ≡ 1 → source.new ≡ source.old }
+    ensures untouched_sink { result ≡ 1 → sink.new ≡ sink.old }
+    // Statuses 2 and 3 come only where a call on the source or on the sink failed.
+    ensures read_fault { result ≡ 2 → Rose (S.faults source.old) (S.faults source.new) }
+    ensures write_fault { result ≡ 3 → Rose (K.faults sink.old) (K.faults sink.new) }
+    ensures read_later { S.faults source.old ≤ S.faults source.new }
+    ensures write_later { K.faults sink.old ≤ K.faults sink.new }
+{
+    match form_of_words(words) {
+        Some(Form::Card) => serve(alloc, source, sink).status(),
+        None => FAULTY_WORDS,
+    }
+}
