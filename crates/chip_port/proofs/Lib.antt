@@ -1,0 +1,4 @@
+pub mod Runs
+mod Kept
+mod Steps
+mod Settling

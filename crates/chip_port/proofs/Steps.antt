@@ -1,0 +1,61 @@
+-- What the calls of a chip in memory do to what it shows.
+use Rattle.std.proofs.Common.{◌≡◌, inl, ℕ, Bool, true, false, List, [], ◌∷◌, refl, sym, subst}
+use Rattle.std.specs.Prelude.{Some, None, Ok, leb, if◌then◌else◌}
+use Rattle.iot_bytes.specs.declared.source.Failed.{Failed}
+use Rattle.chip_port.specs.declared.counts.Counts.{Counts}
+use Rattle.chip_port.specs.declared.medium.Rises.{Rises}
+use Rattle.chip_port.specs.declared.medium.Rises.TheVariants.{Content}
+use Rattle.chip_port.specs.Seen.{called, Passes, Marks}
+use Rattle.chip_port.specs.Rules.{Synced, Woken, woken}
+use Rattle.chip_port.specs.Past.{Past, wrote, did_sync, did_answer, was_cut, woke_as, images, risen, fits, marks_of}
+use Rattle.chip_port.specs.PastLaws.{risen_left}
+use Rattle.chip_port.specs.Counts.{tally_of}
+use Rattle.chip_port.specs.MemSeen.{seen_in, is_woken}
+
+pub synced_in : (past later : List Past) (a b : Counts) (ca oa cb ob : ℕ) → fits 346624 past ≡ true → later ≡ did_sync ∷ past → tally_of b ≡ called true (tally_of a) → Passes (tally_of a) → b.faults ≡ a.faults
+    → Synced {T = Unit {0}} {E = Failed} (seen_in past a ca oa) (seen_in later b cb ob) (Ok tt)
+synced_in past later a b ca oa cb ob f is tally passes calm = subst (λ (p : List Past). Synced {T = Unit {0}} {E = Failed} (seen_in past a ca oa) (seen_in p b cb ob) (Ok tt)) (sym is) (record {
+  call = record { tally = tally; passes = passes; calm = calm; time = record { keeps = λ n c was. inl was; nothing_else = λ n c left. left } };
+  reads = refl;
+  marks = refl;
+  fewer = λ c now. subst (λ (i : List ℕ). (seen_in past a ca oa).leaves i) (sym now) (risen_left 346624 Content past f);
+  done = λ c now. now;
+  failed = tt;
+})
+
+pub woken_in : (past later : List Past) (rises : Rises) (a : Counts) (calls octets : ℕ) → fits 346624 past ≡ true → later ≡ woke_as rises ∷ past
+    → Woken {T = Unit {0}} {E = Failed} (seen_in past a calls octets) (seen_in later (record a { cut = None }) calls octets) (Ok tt)
+woken_in past later rises a calls octets f is = subst (λ (p : List Past). Woken {T = Unit {0}} {E = Failed} (seen_in past a calls octets) (seen_in p (record a { cut = None }) calls octets) (Ok tt)) (sym is) (record {
+  tally = refl;
+  calm = refl;
+  done = (risen_left 346624 rises past f, λ c now. now, refl);
+  failed = tt;
+  time = record { keeps = λ n c was. inl was; nothing_else = λ n c left. left };
+})
+
+woken_twice : (image : List ℕ) (m : Marks) → woken image m ≡ woken image (woken image m)
+woken_twice image m = λ i. record { answers = m.answers; cuts_at = m.cuts_at; breaks_at = m.breaks_at; woke = λ n. same n (leb n m.answers) i }
+  where
+    same : (n : ℕ) (b : Bool) → (if b then m.woke n else Some image) ≡ (if b then (if b then m.woke n else Some image) else Some image)
+    same n true = refl
+    same n false = refl
+
+pub woken_again : (past : List Past) (a : Counts) (calls octets : ℕ) → is_woken past ≡ true
+    → Woken {T = Unit {0}} {E = Failed} (seen_in past a calls octets) (seen_in past (record a { cut = None }) calls octets) (Ok tt)
+woken_again (woke_as rises ∷ older) a calls octets is = record {
+  tally = refl;
+  calm = refl;
+  done = (refl, λ c now. now, woken_twice (risen rises (images 346624 older)) (marks_of 346624 older));
+  failed = tt;
+  time = record { keeps = λ n c was. was; nothing_else = λ n c left. inl left };
+}
+woken_again [] a calls octets is = absurd (cc (is))
+woken_again (wrote at n o ∷ older) a calls octets is = absurd (cc (is))
+woken_again (did_sync ∷ older) a calls octets is = absurd (cc (is))
+woken_again (did_answer x y ∷ older) a calls octets is = absurd (cc (is))
+woken_again (was_cut tear ∷ older) a calls octets is = absurd (cc (is))
+
+pub woken_still : (past later : List Past) (a : Counts) (calls octets : ℕ) → is_woken past ≡ true → later ≡ past
+    → Woken {T = Unit {0}} {E = Failed} (seen_in past a calls octets) (seen_in later (record a { cut = None }) calls octets) (Ok tt)
+woken_still past later a calls octets is e =
+    subst (λ (p : List Past). Woken {T = Unit {0}} {E = Failed} (seen_in past a calls octets) (seen_in p (record a { cut = None }) calls octets) (Ok tt)) (sym e) (woken_again past a calls octets is)

@@ -1,0 +1,10 @@
+pub mod Seen
+pub mod Rules
+pub mod Runs
+pub mod Past
+pub mod PastLaws
+pub mod Medium
+pub mod Counts
+pub mod MemSeen
+pub mod MemChipSeen
+pub mod Example
