@@ -30,7 +30,7 @@ unfolding replies history_of
 replies-push h [] f = refl
 replies-push h (g ∷ gs) f = ap (λ (rs : List Reply). reply_to h (request_at g) ∷ rs) (replies-push (after h (request_at g)) gs f)
 
-map_some : (start : Option History) (fs : List (List ℕ)) (h : History) → option_map (λ s. history_of s fs) start ≡ Some h → (s : History) × (start ≡ Some s) × (history_of s fs ≡ h)
+pub map_some : (start : Option History) (fs : List (List ℕ)) (h : History) → option_map (λ s. history_of s fs) start ≡ Some h → (s : History) × (start ≡ Some s) × (history_of s fs ≡ h)
 map_some None fs h e = absurd cc
 map_some (Some s) fs h e = (s, refl, cc)
 

@@ -29,7 +29,7 @@ above false true x y e = absurd cc
 above false false x y e = refl
 
 -- a package that isn't refused has a counter above the kept one
-rises : (h : History) (good : Bool) (p : SignedEnable) → refusal h good p ≡ None → greatest_counter h.loads < p.counter
+pub rises : (h : History) (good : Bool) (p : SignedEnable) → refusal h good p ≡ None → greatest_counter h.loads < p.counter
 unfolding refusal_by
 rises h good p e = leb-false _ _ (above _ (nat_le p.counter (greatest_counter h.loads)) _ _ e)
 

@@ -8,3 +8,4 @@ pub mod SpelledValues
 pub mod SpelledTables
 pub mod SpelledRequests
 pub mod SpelledPackages
+pub mod Once

@@ -5,5 +5,6 @@ pub mod Reading
 pub mod Cards
 pub mod Holds
 pub mod Status
+pub mod Once
 pub mod Ends
 pub mod Steps

@@ -1,6 +1,8 @@
-//! That the reading words and the spellings are inverse, as functions that do
-//! nothing: the clauses are the laws.
+//! Laws of the definitions, as functions that do nothing: the clauses are the laws.
 ghost use Rattle.std.specs.Prelude.{◌≡◌, ◌≤◌, ℕ, List, Some, length};
+ghost use Rattle.iot_program.specs.Cards.{History};
+ghost use Rattle.iot_program.specs.Once.{TakesOnce};
+ghost use Rattle.iot_program.specs.Steps.{history_after};
 ghost use Rattle.iot_program.specs.Reading.{package_at, request_at};
 ghost use Rattle.iot_program.specs.Requests.{AreOctets, IsRequest, IsSignedEnable, IsSpelled, request, signed};
 ghost use Rattle.iot_program.specs.declared.package.SignedEnable.{SignedEnable};
@@ -23,4 +25,10 @@ pub fn packages_are_read_back()
     ensures taken { (bytes : List ℕ) (p : SignedEnable) → AreOctets bytes → package_at bytes ≡ Some p → IsSignedEnable p × IsSpelled bytes p }
     ensures again { (p : SignedEnable) (signature : List ℕ) → IsSignedEnable p → length signature ≤ 128 → package_at (signed p signature) ≡ Some p }
     ensures short { (p : SignedEnable) (signature : List ℕ) → IsSignedEnable p → length signature ≤ 128 → length (signed p signature) ≤ 4096 }
+{}
+
+/// Whatever frames are sent, the packages that took effect have rising counters. So none of them
+/// took effect twice.
+pub fn packages_take_effect_once()
+    ensures { (fs : List (List ℕ)) (h : History) → history_after fs ≡ Some h → TakesOnce h }
 {}
