@@ -1,0 +1,180 @@
+ghost use Rattle.std.specs.Prelude.{◌<◌};
+
+use super::*;
+use iot_bytes::{NoMemory, Row};
+use profile_table::Table;
+use sgp_values::{Iccid, Nickname, OutOfRange};
+use small_card::{Item, Profile, Psmo, execute_psmos};
+use std::alloc::Global;
+use std::test::Fail;
+
+fn iccid(last: u8) -> Result<Iccid, OutOfRange> {
+    Iccid::of(&[0x98, 0x44, 0, 0, 0, 0, 0, 0, 0, last])
+}
+
+fn profile(last: u8, enabled: bool) -> Result<Profile, OutOfRange> {
+    Ok(Profile {
+        iccid: iccid(last)?,
+        enabled,
+        nickname: Nickname::of(b"")?,
+    })
+}
+
+fn enable(last: u8, rollback: bool) -> Result<Psmo, OutOfRange> {
+    Ok(Psmo::Enable {
+        iccid: iccid(last)?,
+        rollback,
+    })
+}
+
+fn disable(last: u8) -> Result<Psmo, OutOfRange> {
+    Ok(Psmo::Disable {
+        iccid: iccid(last)?,
+    })
+}
+
+fn delete(last: u8) -> Result<Psmo, OutOfRange> {
+    Ok(Psmo::Delete {
+        iccid: iccid(last)?,
+    })
+}
+
+fn row_of<T: Copy + Drop>(alloc: Global, items: &[T]) -> Result<Row<T>, NoMemory> {
+    let mut row = Row::new(alloc);
+    row.append(items)?;
+    Ok(row)
+}
+
+fn run_on(alloc: Global, profiles: &[Profile], ops: &[Psmo]) -> Result<PsmoDone, Fail> {
+    match Table::of(row_of(alloc, profiles)?) {
+        Ok(table) => Ok(run(alloc, table, &row_of(alloc, ops)?)?),
+        Err(_) => Err("a list that is no table".into()),
+    }
+}
+
+fn are_alike(one: &Item, other: &Item) -> bool {
+    match (one, other) {
+        (Item::Enable(a), Item::Enable(b)) => *a == *b,
+        (Item::Disable(a), Item::Disable(b)) => *a == *b,
+        (Item::Delete(a), Item::Delete(b)) => *a == *b,
+        (Item::Profiles(a), Item::Profiles(b)) => a.as_slice() == b.as_slice(),
+        _ => false,
+    }
+}
+
+fn are_all_alike(items: &[Item], wanted: &[Item]) -> bool {
+    items.len() == wanted.len()
+        && items
+            .iter()
+            .zip(wanted.iter())
+            .all(|(a, b)| are_alike(a, b))
+}
+
+#[test]
+fn a_rollback_is_armed(rt: HostRuntime) -> Result<(), Fail> {
+    let start = [profile(1, true)?, profile(2, false)?, profile(3, false)?];
+    let second = [profile(1, false)?, profile(2, true)?, profile(3, false)?];
+
+    let done = run_on(rt.alloc(), &start, &[disable(1)?, enable(2, true)?])?;
+    assert!(rt; are_all_alike(done.items.as_slice(), &[Item::Disable(0), Item::Enable(0)]));
+    assert_eq!(rt; done.table.rows(), second.as_slice());
+    assert_eq!(rt; done.armed, Some(iccid(1)?));
+
+    let done = run_on(rt.alloc(), &start, &[enable(2, true)?, delete(1)?])?;
+    assert!(rt; are_all_alike(done.items.as_slice(), &[Item::Enable(0), Item::Delete(3)]));
+    assert_eq!(rt; done.table.rows(), second.as_slice());
+    assert_eq!(rt; done.armed, Some(iccid(1)?));
+    Ok(())
+}
+
+#[test]
+fn no_rollback_is_armed(rt: HostRuntime) -> Result<(), Fail> {
+    let start = [profile(1, true)?, profile(2, false)?, profile(3, false)?];
+
+    let ops = [disable(1)?, delete(1)?, enable(2, true)?];
+    let done = run_on(rt.alloc(), &start, &ops)?;
+    assert!(rt;
+        are_all_alike(
+            done.items.as_slice(),
+            &[Item::Disable(0), Item::Delete(0), Item::Enable(0)]
+        )
+    );
+    assert_eq!(rt;
+        done.table.rows(),
+        [profile(2, true)?, profile(3, false)?].as_slice()
+    );
+    assert_eq!(rt; done.armed, None);
+
+    let done = run_on(rt.alloc(), &start, &[enable(9, false)?, Psmo::List])?;
+    assert!(rt; are_all_alike(done.items.as_slice(), &[Item::Enable(1)]));
+    assert_eq!(rt; done.table.rows(), start.as_slice());
+    assert_eq!(rt; done.armed, None);
+    Ok(())
+}
+
+// Numbers that look random, the same in each run.
+#[derive(Drop)]
+struct Dice {
+    state: u32,
+}
+
+impl Dice {
+    fn roll(&mut self, sides: u32) -> u32
+        requires { 0 < sides }
+    {
+        self.state = self.state.wrapping_mul(1_103_515_245).wrapping_add(12_345);
+        (self.state >> 16) % sides
+    }
+
+    fn last(&mut self) -> u8 {
+        match self.roll(7) {
+            0 | 1 => 1,
+            2 | 3 => 2,
+            4 | 5 => 3,
+            _ => 9,
+        }
+    }
+
+    fn operation(&mut self) -> Result<Psmo, OutOfRange> {
+        match self.roll(9) {
+            0 | 1 => enable(self.last(), false),
+            2 | 3 | 4 => enable(self.last(), true),
+            5 | 6 => disable(self.last()),
+            7 => delete(self.last()),
+            _ => Ok(Psmo::List),
+        }
+    }
+}
+
+#[test]
+fn the_plain_program_does_the_same(rt: HostRuntime) -> Result<(), Fail> {
+    let mut armed = false;
+    let mut kept = false;
+    for seed in 0..400 {
+        let mut dice = Dice { state: seed };
+        let on = dice.roll(4);
+        let start = [
+            profile(1, on == 0)?,
+            profile(2, on == 1)?,
+            profile(3, on == 2)?,
+        ];
+        let mut ops = Row::new(rt.alloc());
+        for _ in 0..=dice.roll(8) {
+            ops.append(&[dice.operation()?])?;
+        }
+        let done = run_on(rt.alloc(), &start, ops.as_slice())?;
+        let plain = execute_psmos(rt.alloc(), &start, ops.as_slice())?;
+        assert_eq!(rt; done.table.rows(), plain.profiles.as_slice());
+        assert!(rt; are_all_alike(done.items.as_slice(), plain.items.as_slice()));
+        assert_eq!(rt; done.armed, plain.armed);
+        armed = armed || done.armed.is_some();
+        kept = kept
+            || done
+                .items
+                .as_slice()
+                .iter()
+                .any(|item| matches!(item, Item::Delete(3)));
+    }
+    assert!(rt; armed && kept);
+    Ok(())
+}
