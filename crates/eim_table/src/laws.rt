@@ -1,0 +1,17 @@
+ghost use Rattle.std.specs.Prelude.{List};
+ghost use Rattle.small_card.specs.Cards.{Managers};
+ghost use Rattle.small_card.specs.Valid.{AreManagers};
+ghost use Rattle.small_card.specs.declared.types.Eco.{Eco};
+ghost use Rattle.eim_table.specs.Entries.{IsEims};
+ghost use Rattle.eim_table.specs.Numbers.{AreNew, after_ops, given_out};
+
+/// Over any list of operations each association that is given out is new: the next one at the start or
+/// above it, and above all that were given out before it. The next association never falls.
+pub fn associations_are_new()
+    ensures new { (ms : Managers) (ops : List Eco) → AreNew ms.next (after_ops ms ops).next (given_out ms ops) }
+{}
+
+/// The managers of a valid card may stand in a table.
+pub fn managers_stand()
+    ensures stand { (ms : Managers) → AreManagers ms → IsEims ms }
+{}
