@@ -1,0 +1,4 @@
+pub mod Stores
+pub mod Fields
+pub mod Calls
+pub mod Laws
