@@ -15,12 +15,10 @@ mod tests;
 mod words;
 
 use iot_bytes::{StdSink, StdSource};
-use run::run;
+use run::{FAULTY_WORDS, run};
 use std::env;
 use std::io::{self, BufReader, ErrorKind};
 use std::process::ExitCode;
-
-const FAULTY_WORDS: u8 = 1;
 
 const NO_MEMORY: u8 = 6;
 

@@ -69,6 +69,14 @@ fn card(alloc: Global, input: &str, edge: &Edge<'_>) -> Result<String, Fail> {
     Ok(format!(in alloc; "{status} {sent}")?)
 }
 
+/// Whether the input, in pieces of 1, of 3 and of all octets, ends so and sends this.
+fn in_pieces(alloc: Global, input: &str, wanted: &str) -> Result<bool, Fail> {
+    let by_ones = card(alloc, input, &Edge { piece: 1, ..WHOLE })?.as_str() == wanted;
+    let by_threes = card(alloc, input, &Edge { piece: 3, ..WHOLE })?.as_str() == wanted;
+    let whole = card(alloc, input, &WHOLE)?.as_str() == wanted;
+    Ok(by_ones && by_threes && whole)
+}
+
 /// Whether the frames before and these octets end with the status, and these answers are sent.
 fn gives(
     alloc: Global,
@@ -81,7 +89,7 @@ fn gives(
     input.push_str(octets)?;
     let mut wanted = String::from_str(alloc, status)?;
     wanted.push_str(joined(alloc, sent)?.as_str())?;
-    Ok(card(alloc, input.as_str(), &WHOLE)?.as_str() == wanted.as_str())
+    in_pieces(alloc, input.as_str(), wanted.as_str())
 }
 
 /// A text, and another so many times.
