@@ -1,0 +1,34 @@
+-- Reading the fields of a record from the left, and how they are spelled.
+use Rattle.std.specs.Prelude.{ℕ, List, [], Option, Some, None}
+use Rattle.sgp_der.specs.Element.{element}
+use Rattle.sgp_der.specs.Reading.{Part}
+use Rattle.sgp_der.specs.Fields.{◌>>=◌, field_at, only_at}
+
+-- the value of the field of this tag at the front, and what follows
+unfoldable pub value_at : {X : Type 0} → (List ℕ → Option X) → ℕ → List ℕ → Option (X × List ℕ)
+value_at of tag bytes = do
+  p ← field_at tag bytes
+  x ← of p.content
+  Some (x, p.rest)
+
+-- the value of the field of this tag that the bytes are
+unfoldable pub last_at : {X : Type 0} → (List ℕ → Option X) → ℕ → List ℕ → Option X
+last_at of tag bytes = do
+  content ← only_at tag bytes
+  of content
+
+-- the value of a field that was found, or none where it is left out
+abbrev pub found_or_out : {X : Type 0} → (List ℕ → Option X) → List ℕ → Option Part → Option (Option X × List ℕ)
+found_or_out of bytes None = Some (None, bytes)
+found_or_out of bytes (Some p) = do
+  x ← of p.content
+  Some (Some x, p.rest)
+
+-- the value of a field that may be left out, and what follows
+unfoldable pub optional_at : {X : Type 0} → (List ℕ → Option X) → ℕ → List ℕ → Option (Option X × List ℕ)
+optional_at of tag bytes = found_or_out of bytes (field_at tag bytes)
+
+-- the spelling of a field that may be left out
+abbrev pub optional : {X : Type 0} → (X → List ℕ) → ℕ → Option X → List ℕ
+optional content tag None = []
+optional content tag (Some x) = element tag (content x)
