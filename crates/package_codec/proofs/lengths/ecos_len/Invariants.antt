@@ -1,0 +1,10 @@
+use Rattle.std.proofs.Common.{◌≡◌, ◌≤◌, ◌*◌, length, take}
+use Rattle.std.specs.List.{flat_map}
+use Rattle.package_codec.specs.Spelling.{eco}
+use Rattle.package_codec.proofs.lengths.ecos_len.Given as goal
+
+abbrev pub invariant-loop-op : goal.invariant-loop-op
+invariant-loop-op l = record {
+  octets : l.len ≡ length (flat_map eco (take l.op-index l.ops));
+  few : l.len ≤ 404 * l.op-index;
+}

@@ -1,0 +1,69 @@
+-- What the card replies to a command, and the history after it.
+use Rattle.std.specs.Prelude.{◌==◌, List, [], ◌∷◌, map, not, Option, Some, None, Result, Ok, Err, if◌then◌else◌}
+use Rattle.small_card.specs.Cards.{Managers}
+use Rattle.small_card.specs.Histories.{History, card_of, former_of, with_unit}
+use Rattle.small_card.specs.Managers.{line_of, is_empty_list, last_association}
+use Rattle.small_card.specs.Packages.{result_of}
+use Rattle.small_card.specs.Units.{initial, load, rollback, remove, is_pending}
+use Rattle.small_card.specs.declared.types.Answer.{Answer}
+use Rattle.small_card.specs.declared.types.Answer.TheVariants as answer
+use Rattle.small_card.specs.declared.types.Armed.{Armed}
+use Rattle.small_card.specs.declared.types.Command.{Command}
+use Rattle.small_card.specs.declared.types.Command.TheVariants as command
+use Rattle.small_card.specs.declared.types.Package.{Package}
+use Rattle.small_card.specs.declared.types.Refused.{Refused}
+use Rattle.package_codec.specs.Checks.{check}
+
+-- A package that passes the checks is answered by its result, the new last one that is pending.
+abbrev pub load_reply : History → Result Package Refused → Answer
+load_reply h (Ok p) = answer.Loaded (result_of (card_of h) p)
+load_reply h (Err r) = answer.LoadRefused r
+
+-- A package that passes the checks takes effect.
+abbrev pub load_after : History → Result Package Refused → History
+load_after h (Ok p) = with_unit h (load p)
+load_after h (Err r) = h
+
+-- A rollback is permitted where there is a former profile, and gets the next sequence number.
+abbrev pub rollback_reply : History → Option Armed → Answer
+rollback_reply h (Some armed) = answer.RolledBack (card_of h).results.next
+rollback_reply h None = answer.NotPermitted
+
+abbrev pub rollback_after : History → Option Armed → History
+rollback_after h (Some armed) = with_unit h rollback
+rollback_after h None = h
+
+-- The first eIM is refused where the card has one, or has given out its last association.
+abbrev pub initial_reply : Managers → Answer
+initial_reply ms =
+    if not (is_empty_list ms.entries) then answer.InitialRefused 1
+    else if ms.next == last_association then answer.InitialRefused 2
+    else answer.Associated ms.next
+
+-- What the card of a history replies to a command.
+unfoldable pub reply : History → Command → Answer
+reply h (command.Personalise eid profiles) = answer.AlreadyPersonal
+reply h (command.Load good bytes) = load_reply h (check h good bytes)
+reply h command.Rollback = rollback_reply h (former_of h)
+reply h (command.Remove seq) = if is_pending seq (card_of h).results.pending then answer.Removed else answer.Absent
+reply h command.Results = answer.Results (card_of h).results.pending
+reply h command.Eims = answer.Eims (map line_of (card_of h).managers.entries)
+reply h (command.Initial id address key) = initial_reply (card_of h).managers
+
+-- The history after a command: with its unit, where it is carried out.
+unfoldable pub after : History → Command → History
+after h (command.Personalise eid profiles) = h
+after h (command.Load good bytes) = load_after h (check h good bytes)
+after h command.Rollback = rollback_after h (former_of h)
+after h (command.Remove seq) = if is_pending seq (card_of h).results.pending then with_unit h (remove seq) else h
+after h command.Results = h
+after h command.Eims = h
+after h (command.Initial id address key) =
+    if not (is_empty_list (card_of h).managers.entries) then h
+    else if (card_of h).managers.next == last_association then h
+    else with_unit h (initial id address key)
+
+-- The history after these commands, the first of them first.
+unfoldable pub after_all : History → List Command → History
+after_all h [] = h
+after_all h (c ∷ cs) = after_all (after h c) cs
