@@ -1,0 +1,6 @@
+pub mod Short
+pub mod Elements
+pub mod CommandCodec
+pub mod ResultLists
+pub mod AnswerCodec
+pub mod Stops

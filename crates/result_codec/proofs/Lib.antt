@@ -1,0 +1,9 @@
+pub mod Writing
+pub mod Sizes
+pub mod Pairs
+pub mod Tagged
+pub mod TableCodec
+pub mod EimListCodec
+pub mod ItemCodec
+pub mod ResultCodec
+pub mod Clauses

@@ -1,0 +1,4 @@
+pub mod Spelling
+pub mod Pairs
+pub mod Reading
+pub mod Laws
