@@ -1,0 +1,12 @@
+pub mod Torn
+pub mod Spelled
+pub mod PutBack
+pub mod Gates
+pub mod Listing
+pub mod Restoring
+pub mod Closing
+pub mod Whole
+pub mod Idle
+pub mod BlockByBlock
+pub mod Keeping
+pub mod Counting
