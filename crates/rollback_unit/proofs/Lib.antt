@@ -1,0 +1,3 @@
+pub mod Enabling
+pub mod Marking
+pub mod Permitting
