@@ -1,0 +1,3 @@
+pub mod FullCards
+pub mod Packages
+pub mod Steps

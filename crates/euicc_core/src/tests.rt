@@ -1,0 +1,372 @@
+//! What no clause says: that the calls succeed where there is memory, and the rules on examples.
+
+use super::*;
+use dice::Dice;
+use iot_bytes::Row;
+use packages::octets_of;
+use plain::PlainCard;
+use profile_table::Table;
+use sgp_values::{Address, Eid, EimId, Iccid, Key, Nickname, OutOfRange};
+use small_card::{Answer, Body, Command, Eco, Package, Profile, Psmo};
+use std::alloc::Global;
+use std::process::Abort;
+use std::test::Fail;
+use texts::{answer_text, card_text};
+
+mod dice;
+mod packages;
+mod plain;
+mod texts;
+
+fn card_eid() -> Result<Eid, OutOfRange> {
+    Eid::of(&[0, 1, 2, 3, 4, 5, 6, 7, 8, 9, 10, 11, 12, 13, 14, 15])
+}
+
+fn iccid(last: u8) -> Result<Iccid, OutOfRange> {
+    Iccid::of(&[0x98, 0x44, 0, 0, 0, 0, 0, 0, 0, last])
+}
+
+/// The profiles A, B and C, of which the one with this number is enabled.
+fn profiles_of(alloc: Global, enabled: u8) -> Result<Row<Profile>, Fail> {
+    let mut rows = Row::new(alloc);
+    for last in 1..=3 {
+        rows.append(&[Profile {
+            iccid: iccid(last)?,
+            enabled: last == enabled,
+            nickname: Nickname::of(b"")?,
+        }])?;
+    }
+    Ok(rows)
+}
+
+fn personal_card(alloc: Global, enabled: u8) -> Result<EuiccCard, Fail> {
+    match Table::of(profiles_of(alloc, enabled)?) {
+        Ok(table) => Ok(EuiccCard::personalise(alloc, card_eid()?, table)?),
+        Err(_) => Err("a list that is no table".into()),
+    }
+}
+
+fn answered(alloc: Global, card: &mut EuiccCard, command: Command) -> Result<Answer, Fail> {
+    match card.step(alloc, command) {
+        StepEnd::Answered(answer) => Ok(answer),
+        StepEnd::NoMemory => Err("memory ran out".into()),
+    }
+}
+
+fn initial(id: &[u8]) -> Result<Command, OutOfRange> {
+    Ok(Command::Initial {
+        id: EimId::of(id)?,
+        address: Address::of(b"")?,
+        key: Key::of(b"")?,
+    })
+}
+
+/// A good load of a package of the first eIM.
+fn load(alloc: Global, counter: u64, body: Body) -> Result<Command, Fail> {
+    let load = Package {
+        eim: EimId::of(b"e1")?,
+        eid: card_eid()?,
+        association: 1,
+        counter,
+        body,
+    };
+    Ok(Command::Load {
+        good: true,
+        bytes: octets_of(alloc, &load)?,
+    })
+}
+
+fn load_of(alloc: Global, counter: u64, ops: &[Psmo]) -> Result<Command, Fail> {
+    let mut row = Row::new(alloc);
+    row.append(ops)?;
+    load(alloc, counter, Body::Psmos(row))
+}
+
+fn load_of_eims(alloc: Global, counter: u64) -> Result<Command, Fail> {
+    let mut row = Row::new(alloc);
+    row.append(&[Eco::List])?;
+    load(alloc, counter, Body::Ecos(row))
+}
+
+/// The command of a letter: 'r' rolls back, a digit removes that result, 'l' and 'e' load a package
+/// that lists profiles or eIMs, 'x' is a replay, and 'p' personalises again.
+fn command_of(alloc: Global, letter: u8) -> Result<Command, Fail> {
+    match letter {
+        b'r' => Ok(Command::Rollback),
+        b'l' => load_of(alloc, 2, &[Psmo::List]),
+        b'e' => load_of_eims(alloc, 2),
+        b'x' => load_of(alloc, 1, &[Psmo::List]),
+        b'p' => Ok(Command::Personalise {
+            eid: Eid::of(&[9; 16])?,
+            profiles: Row::new(alloc),
+        }),
+        _ => Ok(Command::Remove {
+            seq: u32::from(letter.wrapping_sub(b'0')),
+        }),
+    }
+}
+
+fn shown(alloc: Global, card: &EuiccCard) -> Result<String, Fail> {
+    let Some(card) = card.card() else {
+        return Err("a card is never dark yet".into());
+    };
+    card_text(
+        alloc,
+        card.profiles.rows(),
+        card.eims.rows(),
+        card.store.rows(),
+    )
+}
+
+/// Carries out a command, and tells its answer.
+fn tell(
+    alloc: Global,
+    card: &mut EuiccCard,
+    command: Command,
+    out: &mut String,
+) -> Result<(), Fail> {
+    let answer = answered(alloc, card, command)?;
+    out.push_str(answer_text(alloc, &answer)?.as_str())?;
+    out.push_str("; ")?;
+    Ok(())
+}
+
+fn tell_all(
+    alloc: Global,
+    card: &mut EuiccCard,
+    first: &[Psmo],
+    letters: &[u8],
+    out: &mut String,
+) -> Result<(), Fail> {
+    tell(alloc, card, load_of(alloc, 1, first)?, out)?;
+    for letter in letters {
+        tell(alloc, card, command_of(alloc, *letter)?, out)?;
+    }
+    out.push_str(shown(alloc, card)?.as_str())?;
+    Ok(())
+}
+
+/// A card with A enabled and the eIM e1.
+fn card_with_eim(alloc: Global) -> Result<EuiccCard, Fail> {
+    let mut card = personal_card(alloc, 1)?;
+    let _ = answered(alloc, &mut card, initial(b"e1")?)?;
+    Ok(card)
+}
+
+/// What the card answers to a first package and to more commands, and then holds.
+fn run(alloc: Global, first: &[Psmo], letters: &[u8]) -> Result<String, Fail> {
+    let mut all = String::new(alloc);
+    tell_all(alloc, &mut card_with_eim(alloc)?, first, letters, &mut all)?;
+    Ok(all)
+}
+
+#[test]
+fn worked_rollbacks(rt: HostRuntime) -> Result<(), Fail> {
+    let (a, b) = (iccid(1)?, iccid(2)?);
+    let disable = Psmo::Disable { iccid: a };
+    let delete = Psmo::Delete { iccid: a };
+    let enable = Psmo::Enable {
+        iccid: b,
+        rollback: true,
+    };
+    let (moved, lost, kept) = (
+        [disable, enable],
+        [disable, delete, enable],
+        [enable, delete],
+    );
+    let cases: [(&[Psmo], &[u8], &str); 9] = [
+        (
+            &moved,
+            b"r",
+            "loaded 1 disable=0 enable=0; rolled 2; +A-B-C e1/1/1 2/e1/1/1r disable=0 enable=0",
+        ),
+        (
+            &lost,
+            b"r",
+            "loaded 1 disable=0 delete=0 enable=0; not permitted; +B-C e1/1/1 1/e1/1/1 disable=0 delete=0 enable=0",
+        ),
+        (
+            &kept,
+            b"r",
+            "loaded 1 enable=0 delete=3; rolled 2; +A-B-C e1/1/1 2/e1/1/1r enable=0 delete=3",
+        ),
+        (
+            &[enable],
+            b"rr12",
+            "loaded 1 enable=0; rolled 2; not permitted; absent; removed; +A-B-C e1/1/1",
+        ),
+        (
+            &[enable],
+            b"1r",
+            "loaded 1 enable=0; removed; not permitted; -A+B-C e1/1/1",
+        ),
+        (
+            &[enable],
+            b"xr",
+            "loaded 1 enable=0; refused 6 1 1; rolled 2; +A-B-C e1/1/1 2/e1/1/1r enable=0",
+        ),
+        (
+            &[enable],
+            b"pr",
+            "loaded 1 enable=0; already personal; rolled 2; +A-B-C e1/1/1 2/e1/1/1r enable=0",
+        ),
+        (
+            &[enable],
+            b"lr1",
+            "loaded 1 enable=0; loaded 2 profiles=-A+B-C; not permitted; removed; -A+B-C e1/1/2 2/e1/1/2 profiles=-A+B-C",
+        ),
+        (
+            &[enable],
+            b"er12",
+            "loaded 1 enable=0; loaded 2 eims= e1/1/2/[]; not permitted; removed; removed; -A+B-C e1/1/2",
+        ),
+    ];
+    for (first, letters, wanted) in cases {
+        assert_eq!(rt; run(rt.alloc(), first, letters)?.as_str(), wanted);
+    }
+    Ok(())
+}
+
+fn check_told(
+    rt: &impl Abort,
+    alloc: Global,
+    card: &mut EuiccCard,
+    command: Command,
+    wanted: &str,
+) -> Result<(), Fail> {
+    let answer = answered(alloc, card, command)?;
+    assert_eq!(rt; answer_text(alloc, &answer)?.as_str(), wanted);
+    Ok(())
+}
+
+fn list_load(alloc: Global, counter: u64) -> Result<Command, Fail> {
+    load_of(alloc, counter, &[Psmo::List])
+}
+
+/// Loads the packages with counters 1 to 8, and gives the list of their results.
+fn eight_loads(rt: &impl Abort, alloc: Global, card: &mut EuiccCard) -> Result<String, Fail> {
+    let mut results = String::new(alloc);
+    for counter in 1..=8 {
+        let wanted = format!(in alloc; "loaded {counter} profiles=+A-B-C")?;
+        check_told(rt, alloc, card, list_load(alloc, counter)?, wanted.as_str())?;
+        let kept = format!(in alloc; " {counter}/e1/1/{counter} profiles=+A-B-C")?;
+        results.push_str(kept.as_str())?;
+    }
+    Ok(results)
+}
+
+fn check_ninth(
+    rt: &impl Abort,
+    alloc: Global,
+    card: &mut EuiccCard,
+    results: &str,
+) -> Result<(), Fail> {
+    check_told(rt, alloc, card, list_load(alloc, 9)?, "refused 7 0 0")?;
+    check_told(rt, alloc, card, Command::Results, results)?;
+    check_told(rt, alloc, card, Command::Remove { seq: 1 }, "removed")?;
+    check_told(
+        rt,
+        alloc,
+        card,
+        list_load(alloc, 9)?,
+        "loaded 9 profiles=+A-B-C",
+    )
+}
+
+#[test]
+fn nine_loads(rt: HostRuntime) -> Result<(), Fail> {
+    let mut card = card_with_eim(rt.alloc())?;
+    let results = eight_loads(&rt, rt.alloc(), &mut card)?;
+    check_ninth(&rt, rt.alloc(), &mut card, results.as_str())
+}
+
+fn plain_card(alloc: Global, enabled: u8) -> Result<PlainCard, Fail> {
+    Ok(PlainCard {
+        eid: card_eid()?,
+        profiles: profiles_of(alloc, enabled)?,
+        entries: Row::new(alloc),
+        association: 1,
+        results: Row::new(alloc),
+        seq: 1,
+        armed: None,
+    })
+}
+
+fn check_alike(
+    rt: &impl Abort,
+    alloc: Global,
+    card: &EuiccCard,
+    plain: &PlainCard,
+) -> Result<(), Fail> {
+    let (profiles, entries) = (plain.profiles.as_slice(), plain.entries.as_slice());
+    let text = card_text(alloc, profiles, entries, plain.results.as_slice())?;
+    assert_eq!(rt; shown(alloc, card)?.as_str(), text.as_str());
+    let Some(card) = card.card() else {
+        return Err("a card is never dark yet".into());
+    };
+    assert_eq!(rt; card.eid, plain.eid);
+    assert_eq!(rt; card.profiles.rows(), profiles);
+    assert_eq!(rt; card.eims.rows(), entries);
+    assert_eq!(rt; card.eims.next(), plain.association);
+    assert_eq!(rt; card.store.next(), plain.seq);
+    assert_eq!(rt; card.armed, plain.armed);
+    Ok(())
+}
+
+/// A place for each kind of answer and each code of a refused load, to see that all of them come. The
+/// packages that are drawn are in the grammar, so codes 1 and 8 don't come.
+fn place_of(answer: &Answer) -> usize {
+    match answer {
+        Answer::LoadRefused(why) => usize::from(why.code),
+        Answer::Loaded(_) => 0,
+        Answer::RolledBack { seq: _ } => 1,
+        Answer::NotPermitted => 8,
+        Answer::Removed => 9,
+        Answer::Absent => 10,
+        Answer::Results(_) => 11,
+        Answer::Eims(_) => 12,
+        Answer::Associated { association: _ } => 13,
+        Answer::InitialRefused { code: _ } => 14,
+        Answer::Personalised | Answer::Malformed | Answer::AlreadyPersonal => 15,
+    }
+}
+
+/// Carries out a drawn command both ways, and gives the place of its answer.
+fn check_step(
+    rt: &impl Abort,
+    alloc: Global,
+    dice: &mut Dice,
+    card: &mut EuiccCard,
+    plain: &mut PlainCard,
+) -> Result<usize, Fail> {
+    let asked = dice.command(alloc, plain)?;
+    let wanted = plain.step(alloc, &asked)?;
+    let text = answer_text(alloc, &wanted)?;
+    check_told(rt, alloc, card, asked.command(alloc)?, text.as_str())?;
+    Ok(place_of(&wanted))
+}
+
+fn check_list(rt: &impl Abort, alloc: Global, seed: u32, seen: &mut [u8; 16]) -> Result<(), Fail> {
+    let mut dice = Dice { state: seed };
+    let enabled = dice.roll(4) as u8;
+    let mut card = personal_card(alloc, enabled)?;
+    let mut plain = plain_card(alloc, enabled)?;
+    for _ in 0..40 {
+        let place = check_step(rt, alloc, &mut dice, &mut card, &mut plain)?;
+        check_alike(rt, alloc, &card, &plain)?;
+        if let Some(mark) = seen.get_mut(place) {
+            *mark = 1;
+        }
+    }
+    Ok(())
+}
+
+#[test]
+fn the_plain_program_answers_the_same(rt: HostRuntime) -> Result<(), Fail> {
+    let mut seen = [0; 16];
+    for seed in 0..300 {
+        check_list(&rt, rt.alloc(), seed, &mut seen)?;
+    }
+    assert_eq!(rt; seen, [1, 1, 1, 1, 1, 1, 1, 1, 1, 1, 1, 1, 1, 1, 1, 0]);
+    Ok(())
+}
