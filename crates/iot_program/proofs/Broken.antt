@@ -25,26 +25,26 @@ goes_on (f ∷ fs) (g ∷ gs) tail few less same =
 long_enough : (f rest : List ℕ) → 4 + length f ≤ length (frame f ++ rest)
 long_enough f rest = omega (arith, length-append f rest)
 
-not_torn : (f rest : List ℕ) → IsShort f → IsTorn (frame f ++ rest) → ⊥
+pub not_torn : (f rest : List ℕ) → IsShort f → IsTorn (frame f ++ rest) → ⊥
 not_torn f rest few (some, inl low) = omega (arith, long_enough f rest)
 not_torn f rest few (some, inr (small, low)) = omega (arith, long_enough f rest, announced-frame f rest few)
 
-not_over : (f rest : List ℕ) → IsShort f → IsOverLimit (frame f ++ rest) → ⊥
+pub not_over : (f rest : List ℕ) → IsShort f → IsOverLimit (frame f ++ rest) → ⊥
 not_over f rest few over = omega (arith, over.over, announced-frame f rest few)
 
 -- nothing follows the last frame, and nothing malformed is a frame
 not_stopped : (fs gs more : List (List ℕ)) (tail : List ℕ) → length fs ≤ most_frames → Begins fs → fs ≡ gs ++ more → tail ≡ framed more → AllByRecursion IsShort more → StopsAt gs tail → ⊥
 not_stopped fs gs [] tail few begins whole left short (inl torn) = omega (arith, torn.0, ap length left)
-not_stopped fs gs [] tail few begins whole left short (inr (inl over)) = omega (arith, over.head, ap length left)
-not_stopped fs gs [] tail few begins whole left short (inr (inr (inl more))) =
+not_stopped fs gs [] tail few begins whole left short (inr (inl (inl over))) = omega (arith, over.head, ap length left)
+not_stopped fs gs [] tail few begins whole left short (inr (inl (inr more))) =
     let none : [] ≡ frame more.1.first ++ more.1.rest = sym left ∙ more.1.parts in absurd cc
-not_stopped fs gs [] tail few begins whole left short (inr (inr (inr unfit))) =
+not_stopped fs gs [] tail few begins whole left short (inr (inr unfit)) =
     let none : [] ≡ frame unfit.1.found.first ++ unfit.1.found.rest = sym left ∙ unfit.1.found.parts in absurd cc
 not_stopped fs gs (f ∷ ms) tail few begins whole left short (inl torn) = not_torn f (framed ms) short.0 (rw left at torn)
-not_stopped fs gs (f ∷ ms) tail few begins whole left short (inr (inl over)) = not_over f (framed ms) short.0 (rw left at over)
-not_stopped fs gs (f ∷ ms) tail few begins whole left short (inr (inr (inl more))) =
+not_stopped fs gs (f ∷ ms) tail few begins whole left short (inr (inl (inl over))) = not_over f (framed ms) short.0 (rw left at over)
+not_stopped fs gs (f ∷ ms) tail few begins whole left short (inr (inl (inr more))) =
     omega (arith, more.0, ap length whole, length-append gs (f ∷ ms))
-not_stopped fs gs (f ∷ ms) tail few begins whole left short (inr (inr (inr unfit))) =
+not_stopped fs gs (f ∷ ms) tail few begins whole left short (inr (inr unfit)) =
     let found = unfit.1.found in
     let same : frame f ++ framed ms ≡ frame found.first ++ found.rest = sym left ∙ found.parts in
     let one = frames_split f found.first (framed ms) found.rest short.0 found.short same in

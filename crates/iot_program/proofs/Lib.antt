@@ -1,11 +1,9 @@
-pub mod Loop
-pub mod Holding
+pub mod Broken
 pub mod Histories
 pub mod Going
-pub mod Broken
+pub mod Short
+pub mod Replying
 pub mod Ending
-pub mod SpelledValues
-pub mod SpelledTables
-pub mod SpelledRequests
-pub mod SpelledPackages
+pub mod Serving
+pub mod Stopping
 pub mod Once

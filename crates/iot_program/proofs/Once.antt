@@ -1,46 +1,56 @@
--- Every frame keeps the counters rising.
-use Rattle.std.proofs.Common.{◌≡◌, ℕ, Bool, List, [], ◌∷◌, Option, Some, None, refl, subst}
-use Rattle.small_card.specs.declared.types.Refused.{Refused}
-use Rattle.iot_program.specs.declared.package.SignedEnable.{SignedEnable}
-use Rattle.iot_program.specs.declared.request.Request.{Request}
-use Rattle.iot_program.specs.declared.request.Request.TheVariants.{Personalise, Load, Initial}
-use Rattle.iot_program.specs.Cards.{History, after, after_load, with_load, refusal, history_of, fresh, personalised, start_of}
-use Rattle.iot_program.specs.Reading.{package_at, request_at}
-use Rattle.iot_program.specs.Steps.{history_after}
-use Rattle.iot_program.specs.Once.{TakesOnce}
-use Rattle.iot_program.proofs.Holding.{rises}
+-- The history after frames of octets is legal.
+use Rattle.std.proofs.Common.{◌≡◌, ℕ, List, [], ◌∷◌, Option, Some, None, refl, subst}
+use Rattle.sgp_values.proofs.Octets.{bounds_from_AllPass}
+use Rattle.small_card.specs.Histories.{History}
+use Rattle.small_card.specs.Legal.{IsLegal}
+use Rattle.small_card.specs.Lists.{Every}
+use Rattle.small_card.specs.Ranges.{IsCommand}
+use Rattle.small_card.specs.declared.types.Command.{Command}
+use Rattle.small_card.specs.declared.types.Command.TheVariants as command
+use Rattle.package_codec.proofs.InRange.{reads_in_range}
+use Rattle.package_codec.proofs.Replying.{after_legal}
+use Rattle.result_codec.specs.Laws.{AreOctets}
+use Rattle.es10_codec.specs.Reading.{command_at}
+use Rattle.es10_codec.proofs.CommandCodec.{command_codec}
+use Rattle.euicc_core.specs.FullCards.{fresh}
+use Rattle.iot_program.specs.Cards.{started, start_of, after_frame, history_of, history_after}
 use Rattle.iot_program.proofs.Histories.{map_some}
+use Rattle.iot_program.proofs.Replying.{fresh_legal, fresh_valid, values}
 
-with_load-once : (h : History) (good : Bool) (p : SignedEnable) (why : Option Refused) → refusal h good p ≡ why → TakesOnce h → TakesOnce (with_load why h p)
-with_load-once h good p (Some r) e once = once
-with_load-once h good p None e once = (rises h good p e, once)
+in_range : (f : List ℕ) (c : Command) → AreOctets f → command_at f ≡ Some c → IsCommand c
+in_range f c octets e = (command_codec.takes f c (bounds_from_AllPass f octets) e).1.range
 
-after_load-once : (h : History) (good : Bool) (p : Option SignedEnable) → TakesOnce h → TakesOnce (after_load h good p)
-unfolding after_load
-after_load-once h good None once = once
-after_load-once h good (Some p) once = with_load-once h good p (refusal h good p) refl once
+frame_legal : (h : History) (o : Option Command) → IsLegal h → ((c : Command) → o ≡ Some c → IsCommand c) → IsLegal (after_frame h o)
+unfolding after_frame
+frame_legal h None l range = l
+frame_legal h (Some c) l range = after_legal reads_in_range h c l (range c refl)
 
-after-once : (h : History) (r : Option Request) → TakesOnce h → TakesOnce (after h r)
-unfolding after
-after-once h None once = once
-after-once h (Some (Personalise eid profiles)) once = once
-after-once h (Some (Load good bytes)) once = after_load-once h good (package_at bytes) once
-after-once h (Some (Initial id address key)) once = once
-
-history_of-once : (h : History) (fs : List (List ℕ)) → TakesOnce h → TakesOnce (history_of h fs)
+later_legal : (h : History) (fs : List (List ℕ)) → IsLegal h → Every AreOctets fs → IsLegal (history_of h fs)
 unfolding history_of
-history_of-once h [] once = once
-history_of-once h (f ∷ fs) once = history_of-once (after h (request_at f)) fs (after-once h (request_at f) once)
+later_legal h [] l octets = l
+later_legal h (f ∷ fs) l octets = later_legal (after_frame h (command_at f)) fs (frame_legal h (command_at f) l (λ c e. in_range f c octets.0 e)) octets.1
 
-fresh-once : (r : Option Request) (h : History) → personalised r ≡ Some h → TakesOnce h
-fresh-once None h e = absurd cc
-fresh-once (Some (Personalise eid profiles)) h e = let same : fresh eid profiles ≡ h = cc in subst TakesOnce same tt
-fresh-once (Some (Load good bytes)) h e = absurd cc
-fresh-once (Some (Initial id address key)) h e = absurd cc
+start_legal : (o : Option Command) (h : History) → started o ≡ Some h → ((c : Command) → o ≡ Some c → IsCommand c) → IsLegal h
+start_legal (Some (command.Personalise eid ps)) h e range =
+    let v = values eid ps (range (command.Personalise eid ps) refl) in
+    let made : History = record { start = fresh eid ps; units = [] } in
+    let same : made ≡ h = cc in
+    subst IsLegal same (fresh_legal (fresh eid ps) (fresh_valid eid ps v.0 v.1))
+start_legal (Some (command.Load good bytes)) h e range = absurd cc
+start_legal (Some command.Rollback) h e range = absurd cc
+start_legal (Some (command.Remove seq)) h e range = absurd cc
+start_legal (Some command.Results) h e range = absurd cc
+start_legal (Some command.Eims) h e range = absurd cc
+start_legal (Some (command.Initial id address key)) h e range = absurd cc
+start_legal None h e range = absurd cc
 
-pub takes_once : (fs : List (List ℕ)) (h : History) → history_after fs ≡ Some h → TakesOnce h
-unfolding history_after start_of
-takes_once [] h e = absurd cc
-takes_once (f ∷ fs) h e =
+first_legal : (f : List ℕ) (h : History) → AreOctets f → start_of f ≡ Some h → IsLegal h
+unfolding start_of
+first_legal f h octets e = start_legal (command_at f) h e (λ c is. in_range f c octets is)
+
+pub frames_legal : (fs : List (List ℕ)) (h : History) → Every AreOctets fs → history_after fs ≡ Some h → IsLegal h
+unfolding history_after
+frames_legal [] h octets e = absurd cc
+frames_legal (f ∷ fs) h octets e =
     let (s, first, now) = map_some (start_of f) fs h e in
-    subst TakesOnce now (history_of-once s fs (fresh-once (request_at f) s first))
+    subst IsLegal now (later_legal s fs (first_legal f s octets.0 first) octets.1)

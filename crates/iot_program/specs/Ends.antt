@@ -3,11 +3,12 @@ use Rattle.std.specs.Prelude.{◌≡◌, ◌≢◌, ℕ, ◌<◌, ◌≤◌, ◌
 use Rattle.std.specs.List.{flat_map, AllByRecursion}
 use Rattle.iot_bytes.specs.Frames.{frame, announced, IsTorn}
 use Rattle.iot_bytes.specs.declared.frame.TheConstants.{FRAME_LIMIT}
-use Rattle.iot_program.specs.Cards.{start_of, output}
+use Rattle.iot_program.specs.Cards.{start_of, output, stop_text}
+use Rattle.iot_program.specs.Status.{status_of}
 use Rattle.iot_program.specs.declared.words.Form.{Form}
 use Rattle.iot_program.specs.declared.words.Form.TheVariants as form
 use Rattle.iot_program.specs.declared.stop.Stop.{Stop}
-use Rattle.iot_program.specs.declared.stop.Stop.TheVariants.{End, ReadFault, WriteFault, Malformed, NoMemory}
+use Rattle.iot_program.specs.declared.stop.Stop.TheVariants.{End, ReadFault, WriteFault, Malformed, NoMemory, Limit, Unrecognised}
 
 -- the most frames of a run
 abbrev pub most_frames : ℕ
@@ -49,12 +50,16 @@ pub record IsUnfit (octets : List ℕ) : Type 0 where
   pub found : HasFrame octets
   pub unfit : start_of found.first ≡ None
 
--- behind these frames the input is malformed: it ends inside a frame, a frame passes the limit on
--- length or on count, or the first frame doesn't personalise the card
-abbrev pub StopsAt : List (List ℕ) → List ℕ → Type 0
-StopsAt fs tail = IsTorn tail ⊎ IsOverLimit tail ⊎ ((length fs ≡ most_frames) × HasFrame tail) ⊎ ((fs ≡ []) × IsUnfit tail)
+-- behind these frames one more passes a limit: on its length, or on the count
+abbrev pub PassesLimit : List (List ℕ) → List ℕ → Type 0
+PassesLimit fs tail = IsOverLimit tail ⊎ ((length fs ≡ most_frames) × HasFrame tail)
 
--- the input is the octets of these frames, and then malformed
+-- behind these frames no frame can be handled: the input ends inside one, one passes a limit, or the
+-- first one doesn't personalise the card
+abbrev pub StopsAt : List (List ℕ) → List ℕ → Type 0
+StopsAt fs tail = IsTorn tail ⊎ PassesLimit fs tail ⊎ ((fs ≡ []) × IsUnfit tail)
+
+-- the input is the octets of these frames, and then something that can't be handled
 pub record IsBroken (input : List ℕ) : Type 0 where
   pub frames : List (List ℕ)
   pub tail : List ℕ
@@ -63,7 +68,7 @@ pub record IsBroken (input : List ℕ) : Type 0 where
   pub stops : StopsAt frames tail
 
 -- Of an input that the source tells: these are all its frames, it was read to its end, and nothing
--- of it is malformed.
+-- of it can't be handled.
 abbrev pub HasReadAll : Option (List ℕ) → Option (List ℕ) → List (List ℕ) → Type 0
 HasReadAll old now fs = (input : List ℕ) → old ≡ Some input → (input ≡ framed fs) × AreHandled fs × (now ≡ Some []) × (IsBroken input → ⊥)
 
@@ -71,9 +76,17 @@ HasReadAll old now fs = (input : List ℕ) → old ≡ Some input → (input ≡
 abbrev pub HasReadFirst : Option (List ℕ) → List (List ℕ) → Type 0
 HasReadFirst old fs = (input : List ℕ) → old ≡ Some input → (tail : List ℕ) × (input ≡ framed fs ++ tail) × AreHandled fs
 
--- of an input that the source tells, these are the first frames, and what follows is malformed
-abbrev pub HasReadBroken : Option (List ℕ) → List (List ℕ) → Type 0
-HasReadBroken old fs = (input : List ℕ) → old ≡ Some input → (tail : List ℕ) × (input ≡ framed fs ++ tail) × AreHandled fs × StopsAt fs tail
+-- of an input that the source tells, these are the first frames, and it ends inside the next one
+abbrev pub HasReadTorn : Option (List ℕ) → List (List ℕ) → Type 0
+HasReadTorn old fs = (input : List ℕ) → old ≡ Some input → (tail : List ℕ) × (input ≡ framed fs ++ tail) × AreHandled fs × IsTorn tail
+
+-- of an input that the source tells, these are the first frames, and the next one passes a limit
+abbrev pub HasReadPast : Option (List ℕ) → List (List ℕ) → Type 0
+HasReadPast old fs = (input : List ℕ) → old ≡ Some input → (tail : List ℕ) × (input ≡ framed fs ++ tail) × AreHandled fs × PassesLimit fs tail
+
+-- of an input that the source tells, the first frame doesn't personalise a card
+abbrev pub HasReadUnfit : Option (List ℕ) → Type 0
+HasReadUnfit old = (input : List ℕ) → old ≡ Some input → IsUnfit input
 
 -- where the sink tells its octets, these were appended
 abbrev pub HasSent : Option (List ℕ) → Option (List ℕ) → List ℕ → Type 0
@@ -83,30 +96,54 @@ HasSent old now octets = (before : List ℕ) → old ≡ Some before → now ≡
 abbrev pub HasSentPart : Option (List ℕ) → Option (List ℕ) → List ℕ → Type 0
 HasSentPart old now octets = (before : List ℕ) → old ≡ Some before → (n : ℕ) × (now ≡ Some (before ++ take n octets))
 
+-- what was read where a stop record is written behind these frames, by the reason to stop
+abbrev pub HasReadTo : Option (List ℕ) → List (List ℕ) → Stop → Type 0
+HasReadTo old fs ReadFault = HasReadFirst old fs
+HasReadTo old fs Malformed = HasReadTorn old fs
+HasReadTo old fs Limit = HasReadPast old fs
+HasReadTo old fs Unrecognised = (fs ≡ []) × HasReadUnfit old
+HasReadTo old fs other = ⊥
+
+-- a front was appended of the answers to these frames, or of them and the stop record behind them
+abbrev pub HasSentFront : Option (List ℕ) → Option (List ℕ) → Option (List ℕ) → List (List ℕ) → Type 0
+HasSentFront rest0 old now fs = HasSentPart old now (output fs) ⊎ ((stop : Stop) × HasReadTo rest0 fs stop × HasSentPart old now (output fs ++ stop_text (status_of stop) fs))
+
 -- what was read and sent where the frames of a card were served, by the reason to stop
 abbrev pub Stopped : Option (List ℕ) → Option (List ℕ) → Option (List ℕ) → Option (List ℕ) → Stop → Type 0
 Stopped rest0 rest sent0 sent End = (fs : List (List ℕ)) × HasReadAll rest0 rest fs × HasSent sent0 sent (output fs)
-Stopped rest0 rest sent0 sent ReadFault = (fs : List (List ℕ)) × HasReadFirst rest0 fs × HasSent sent0 sent (output fs)
-Stopped rest0 rest sent0 sent WriteFault = (fs : List (List ℕ)) × HasReadFirst rest0 fs × HasSentPart sent0 sent (output fs)
-Stopped rest0 rest sent0 sent Malformed = (fs : List (List ℕ)) × HasReadBroken rest0 fs × HasSent sent0 sent (output fs)
+Stopped rest0 rest sent0 sent ReadFault = (fs : List (List ℕ)) × HasReadFirst rest0 fs × HasSent sent0 sent (output fs ++ stop_text 2 fs)
+Stopped rest0 rest sent0 sent WriteFault = (fs : List (List ℕ)) × HasReadFirst rest0 fs × HasSentFront rest0 sent0 sent fs
+Stopped rest0 rest sent0 sent Malformed = (fs : List (List ℕ)) × HasReadTorn rest0 fs × HasSent sent0 sent (output fs ++ stop_text 5 fs)
 Stopped rest0 rest sent0 sent NoMemory = (fs : List (List ℕ)) × HasReadFirst rest0 fs × HasSent sent0 sent (output fs)
+Stopped rest0 rest sent0 sent Limit = (fs : List (List ℕ)) × HasReadPast rest0 fs × HasSent sent0 sent (output fs ++ stop_text 7 fs)
+Stopped rest0 rest sent0 sent Unrecognised = HasReadUnfit rest0 × HasSent sent0 sent (stop_text 8 [])
 
 -- `card`: what was read and sent, by the status
 pub record Served (status : ℕ) (rest0 rest sent0 sent : Option (List ℕ)) : Type 0 where
   -- the input was read to its end, and the answers to all its frames were sent
   pub done : status ≡ 0 → Stopped rest0 rest sent0 sent End
-  -- the answers to the frames before the fault were sent
+  -- the answers to the frames before the fault were sent, and the stop record
   pub read_fault : status ≡ 2 → Stopped rest0 rest sent0 sent ReadFault
-  -- a front of the answers was sent
+  -- a front of the answers was sent, with the stop record where one was begun
   pub write_fault : status ≡ 3 → Stopped rest0 rest sent0 sent WriteFault
-  -- the answers to the frames before the malformed octets were sent
+  -- the answers to the frames before the torn one were sent, and the stop record
   pub malformed : status ≡ 5 → Stopped rest0 rest sent0 sent Malformed
   -- the answers to the frames before the one in hand were sent
   pub no_memory : status ≡ 6 → Stopped rest0 rest sent0 sent NoMemory
+  -- the answers to the frames before the one that passes a limit were sent, and the stop record
+  pub limit : status ≡ 7 → Stopped rest0 rest sent0 sent Limit
+  -- the stop record alone was sent
+  pub unrecognised : status ≡ 8 → Stopped rest0 rest sent0 sent Unrecognised
   -- there is no other status
-  pub others : (status ≡ 0) ⊎ (status ≡ 2) ⊎ (status ≡ 3) ⊎ (status ≡ 5) ⊎ (status ≡ 6)
+  pub others : (status ≡ 0) ⊎ (status ≡ 2) ⊎ (status ≡ 3) ⊎ (status ≡ 5) ⊎ (status ≡ 6) ⊎ (status ≡ 7) ⊎ (status ≡ 8)
 
 -- what a run does, by the form of its words
 abbrev pub Ended : Option Form → ℕ → Option (List ℕ) → Option (List ℕ) → Option (List ℕ) → Option (List ℕ) → Type 0
 Ended None status rest0 rest sent0 sent = status ≡ 1
 Ended (Some form.Card) status rest0 rest sent0 sent = Served status rest0 rest sent0 sent
+
+-- the status where an input stops behind these frames, and neither a call failed nor memory was wanting but for 6
+pub record StopsWith (fs : List (List ℕ)) (tail : List ℕ) (status : ℕ) : Type 0 where
+  pub torn : IsTorn tail → (status ≡ 5) ⊎ (status ≡ 6)
+  pub limit : PassesLimit fs tail → (status ≡ 7) ⊎ (status ≡ 6)
+  pub unfit : fs ≡ [] → IsUnfit tail → (status ≡ 8) ⊎ (status ≡ 6)

@@ -1,10 +1,5 @@
 pub mod Words
-pub mod Requests
-pub mod Replies
-pub mod Reading
 pub mod Cards
-pub mod Holds
 pub mod Status
-pub mod Once
 pub mod Ends
 pub mod Steps

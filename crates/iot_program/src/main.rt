@@ -1,13 +1,9 @@
 //! `iot`: remote management of eSIM profiles, replayed over recorded octets.
 #![tactic(auto)]
 
-mod card;
-mod fields;
 mod laws;
-mod package;
-mod reply;
-mod request;
 mod run;
+mod sending;
 mod serve;
 mod stop;
 #[cfg(test)]

@@ -1,7 +1,7 @@
-ghost use Rattle.std.specs.Prelude.{◌≡◌, ◌≤◌, ◌↔◌, map, string_bytes, None};
+ghost use Rattle.std.specs.Prelude.{◌≡◌, ◌≤◌, ◌↔◌, ◌⊎◌, ◌++◌, ℕ, List, map, string_bytes, Some, None};
 ghost use Rattle.iot_bytes.specs.Causes.{Rose};
 ghost use Rattle.iot_program.specs.Words.{form_of};
-ghost use Rattle.iot_program.specs.Ends.{Ended};
+ghost use Rattle.iot_program.specs.Ends.{framed, AreHandled, Ended, StopsWith};
 
 use crate::serve::serve;
 use crate::words::{Form, form_of_words};
@@ -24,6 +24,14 @@ pub fn run<S: Source, K: Sink>(alloc: Global, words: &[String], source: &mut S, 
     ensures write_fault { result ≡ 3 → Rose (K.faults sink.old) (K.faults sink.new) }
     ensures read_later { S.faults source.old ≤ S.faults source.new }
     ensures write_later { K.faults sink.old ≤ K.faults sink.new }
+    // Whole frames within the limits, of which the first personalises the card, are answered to
+    // their end where no call on the source or the sink fails and memory suffices.
+    ensures complete { (input : List ℕ) (fs : List (List ℕ)) → form_of (map string_bytes words.now) ≡ Some Form.Card → S.rest source.old ≡ Some input → input ≡ framed fs → AreHandled fs
+        → ¬ Rose (S.faults source.old) (S.faults source.new) → ¬ Rose (K.faults sink.old) (K.faults sink.new) → (result ≡ 0) ⊎ (result ≡ 6) }
+    // An input that stops behind such frames ends the run with the status of its reason: torn, past a
+    // limit, or a first frame that doesn't personalise the card.
+    ensures stops { (input : List ℕ) (fs : List (List ℕ)) (tail : List ℕ) → form_of (map string_bytes words.now) ≡ Some Form.Card → S.rest source.old ≡ Some input → input ≡ framed fs ++ tail → AreHandled fs
+        → ¬ Rose (S.faults source.old) (S.faults source.new) → ¬ Rose (K.faults sink.old) (K.faults sink.new) → StopsWith fs tail result }
 {
     match form_of_words(words) {
         Some(Form::Card) => serve(alloc, source, sink).status(),

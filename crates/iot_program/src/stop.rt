@@ -1,5 +1,5 @@
 ghost use Rattle.std.specs.Prelude.{◌≡◌};
-ghost use Rattle.iot_program.specs.Status.{status_of};
+ghost use Rattle.iot_program.specs.Status.{status_of, has_record};
 
 /// Why no more frames are handled.
 #[derive(Clone, Copy, Debug, PartialEq, Eq)]
@@ -10,10 +10,14 @@ pub enum Stop {
     ReadFault,
     /// The sink failed.
     WriteFault,
-    /// The input is malformed.
+    /// The input ends inside a frame.
     Malformed,
     /// Memory is wanting.
     NoMemory,
+    /// A frame passes the limit on its length or on the count.
+    Limit,
+    /// The first frame doesn't personalise the card.
+    Unrecognised,
 }
 
 impl Stop {
@@ -27,6 +31,18 @@ impl Stop {
             Stop::WriteFault => 3,
             Stop::Malformed => 5,
             Stop::NoMemory => 6,
+            Stop::Limit => 7,
+            Stop::Unrecognised => 8,
+        }
+    }
+
+    /// Whether a stop record is the last that is written.
+    pub fn has_record(self) -> bool
+        ensures { result ≡ has_record self }
+    {
+        match self {
+            Stop::ReadFault | Stop::Malformed | Stop::Limit | Stop::Unrecognised => true,
+            Stop::End | Stop::WriteFault | Stop::NoMemory => false,
         }
     }
 }

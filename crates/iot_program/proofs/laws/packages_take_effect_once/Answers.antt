@@ -1,5 +1,6 @@
-use Rattle.iot_program.proofs.Once.{takes_once}
+use Rattle.small_card.proofs.Accepting.{legal_once}
+use Rattle.iot_program.proofs.Once.{frames_legal}
 use Rattle.iot_program.proofs.laws.packages_take_effect_once.Goals as goal
 
 pub returns : goal.returns
-returns c = takes_once
+returns c = record { legal = frames_legal; once = λ fs h octets reached. legal_once h (frames_legal fs h octets reached) }

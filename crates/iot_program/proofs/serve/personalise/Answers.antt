@@ -1,8 +1,14 @@
-use Rattle.iot_program.proofs.Ending.{begun, begun_none}
+use Rattle.std.proofs.Common.{◌∙◌, ap, List}
+use Rattle.small_card.specs.declared.types.Profile.{Profile}
+use Rattle.euicc_core.specs.FullCards.{fresh}
+use Rattle.iot_program.proofs.Replying.{begun, table_of}
 use Rattle.iot_program.proofs.serve.personalise.Goals as goal
 
-pub returns-in-Ok : goal.returns-in-Ok
-returns-in-Ok c = begun c.args.frame.now c.in-Ok.request c.begin.result c.in-Ok.ensures c.begin.ensures
+pub returns-in_default : goal.returns-in_default
+returns-in_default c =
+    let table = table_of c.args.eid c.args.profiles c.requires in
+    absurd (c.in_default.ensures.exact (record { few = table.few; apart = table.apart }))
 
-pub returns-in-Err-Malformed : goal.returns-in-Err-Malformed
-returns-in-Err-Malformed c = begun_none c.args.frame.now (rw c.in-Err-Malformed.field-0-is at c.in-Err-Malformed.ensures)
+pub returns-in-Ok-personalise : goal.returns-in-Ok-personalise
+returns-in-Ok-personalise c =
+    begun c.args.eid c.args.profiles c.in-Ok-personalise.card c.requires (c.in-Ok-personalise.ensures.fresh ∙ ap (λ (ps : List Profile). fresh c.args.eid ps) c.in-Ok.ensures.same)
