@@ -1,10 +1,8 @@
-ghost use Rattle.std.specs.Prelude.{◌<◌};
-
 use super::*;
 use eim_table::Eims;
 use iot_bytes::{NoMemory, Row};
 use sgp_values::{Address, EimId, Key, OutOfRange};
-use small_card::{Eco, Item, execute_ecos};
+use small_card::{Eco, Item};
 use std::alloc::Global;
 use std::test::Fail;
 
@@ -85,66 +83,5 @@ fn eight_additions(rt: HostRuntime) -> Result<(), Fail> {
     }
     let wanted = " add=0:2 add=0:3 add=0:4 add=0:5 add=0:6 add=0:7 add=0:8 add=2:0";
     assert_eq!(rt; told(&rt, ops.as_slice())?.as_str(), wanted);
-    Ok(())
-}
-
-// The next number of a fixed sequence, below the limit.
-fn draw(seed: &mut u32, limit: u32) -> u32
-    requires { 0 < limit }
-    ensures { result < limit }
-{
-    *seed = seed.wrapping_mul(1103515245).wrapping_add(12345);
-    (*seed >> 16) % limit
-}
-
-fn drawn(seed: &mut u32) -> Result<Eco, OutOfRange> {
-    let digit = draw(seed, 9) as u8;
-    let id = EimId::of(&[b'e', b'0' + digit])?;
-    let address = Address::of(&[b'a', b'0' + digit])?;
-    let key = Key::of(&[digit])?;
-    Ok(match draw(seed, 8) {
-        0 | 1 | 2 | 3 => Eco::Add { id, address, key },
-        4 => Eco::Delete { id },
-        5 => Eco::Update {
-            id,
-            address: Some(address),
-            key: None,
-        },
-        6 => Eco::Update {
-            id,
-            address: None,
-            key: Some(key),
-        },
-        _ => Eco::List,
-    })
-}
-
-fn drawn_row(alloc: Global, seed: &mut u32) -> Result<Row<Eco>, Fail> {
-    let ops = [drawn(seed)?, drawn(seed)?, drawn(seed)?, drawn(seed)?];
-    let row = row_of(alloc, &ops)?;
-    Ok(row)
-}
-
-// Executes four operations both ways, and gives the table that both leave.
-fn agreed(rt: &HostRuntime, eims: Eims, seed: &mut u32) -> Result<Eims, Fail> {
-    let ops = drawn_row(rt.alloc(), seed)?;
-    let plain = execute_ecos(rt.alloc(), eims.rows(), eims.next(), ops.as_slice())?;
-    let EcoDone { eims, items } = run(rt.alloc(), eims, &ops)?;
-    if eims.rows() != plain.entries.as_slice() || eims.next() != plain.next {
-        return Err("another table".into());
-    }
-    if text(rt, &items)?.as_str() != text(rt, &plain.items)?.as_str() {
-        return Err("other items".into());
-    }
-    Ok(eims)
-}
-
-#[test]
-fn the_plain_program_agrees(rt: HostRuntime) -> Result<(), Fail> {
-    let mut seed = 1;
-    let mut eims = table(rt.alloc())?;
-    for _ in 0..60 {
-        eims = agreed(&rt, eims, &mut seed)?;
-    }
     Ok(())
 }

@@ -8,7 +8,8 @@ ghost use Rattle.small_card.specs.Valid.{AreEntriesApart};
 
 use iot_bytes::{NoMemory, Reserve, Row};
 use sgp_values::{Address, EimId, Key};
-use small_card::codes::{DONE, EIM_LIMIT, LAST_DELETED};
+use small_card::codes::{DONE, LAST_DELETED};
+use small_card::limits::MOST_EIMS;
 use small_card::{EimEntry, EimLine};
 use std::alloc::Global;
 
@@ -143,7 +144,7 @@ pub(crate) fn copy_entries(
     ensures items { IfOk result (λ held. held.items ≡ entries.now) }
     ensures room { IfOk result (λ held. 8 ≤ length held.items + held.spare) }
 {
-    let mut out = Reserve::with_room(alloc, EIM_LIMIT)?;
+    let mut out = Reserve::with_room(alloc, MOST_EIMS)?;
     out.append(entries)?;
     Ok(out)
 }

@@ -11,7 +11,8 @@ use crate::entries::{
 };
 use iot_bytes::{NoMemory, Reserve, Row};
 use sgp_values::{Address, EimId, Key};
-use small_card::codes::{DONE, EIM_LIMIT, EXISTS, NO_ASSOCIATION_LEFT, NO_ENTRY_LEFT, NOT_FOUND};
+use small_card::codes::{DONE, EXISTS, NO_ASSOCIATION_LEFT, NO_ENTRY_LEFT, NOT_FOUND};
+use small_card::limits::MOST_EIMS;
 use small_card::{EimEntry, EimLine};
 use std::alloc::Global;
 use std::marker::Model;
@@ -56,7 +57,7 @@ impl Eims {
         ensures table { IfOk result (λ eims. eims ≡ record { entries = []; next = next }) }
     {
         Ok(Eims {
-            entries: Reserve::with_room(alloc, EIM_LIMIT)?,
+            entries: Reserve::with_room(alloc, MOST_EIMS)?,
             next,
         })
     }
@@ -69,7 +70,7 @@ impl Eims {
         requires { IsEims (record { entries = entries; next = next }) }
         ensures table { IfOk result (λ eims. eims ≡ record { entries = entries; next = next }) }
     {
-        let room = EIM_LIMIT - entries.len();
+        let room = MOST_EIMS - entries.len();
         Ok(Eims {
             entries: Reserve::of(entries, room)?,
             next,
@@ -90,7 +91,7 @@ impl Eims {
         if has_eim(self.entries.as_slice(), &id) {
             return AddEnd::Refused(EXISTS);
         }
-        if self.entries.len() >= EIM_LIMIT {
+        if self.entries.len() >= MOST_EIMS {
             return AddEnd::Refused(NO_ENTRY_LEFT);
         }
         if self.next == u32::MAX {

@@ -10,7 +10,8 @@ use crate::rows;
 use iot_bytes::{NoMemory, Row};
 use sgp_values::Iccid;
 use small_card::Profile;
-use small_card::codes::{DONE, NOT_FOUND, PROFILE_LIMIT, WRONG_STATE};
+use small_card::codes::{DONE, NOT_FOUND, WRONG_STATE};
+use small_card::limits::MOST_PROFILES;
 use std::alloc::Global;
 use std::marker::Model;
 
@@ -43,7 +44,7 @@ impl Table {
         ensures same { MatchResult result (λ table. table ≡ profiles) (λ back. back ≡ profiles) }
         ensures exact { MatchResult result (λ _. IsTable profiles) (λ _. ¬ MayStand profiles) }
     {
-        if profiles.len() > PROFILE_LIMIT || !are_apart(profiles.as_slice()) {
+        if profiles.len() > MOST_PROFILES || !are_apart(profiles.as_slice()) {
             return Err(profiles);
         }
         ranges(profiles.as_slice());

@@ -1,10 +1,8 @@
-ghost use Rattle.std.specs.Prelude.{◌<◌};
-
 use super::*;
 use iot_bytes::{NoMemory, Row};
 use profile_table::Table;
 use sgp_values::{Iccid, Nickname, OutOfRange};
-use small_card::{Item, Profile, Psmo, execute_psmos};
+use small_card::{Item, Profile, Psmo};
 use std::alloc::Global;
 use std::test::Fail;
 
@@ -109,72 +107,5 @@ fn no_rollback_is_armed(rt: HostRuntime) -> Result<(), Fail> {
     assert!(rt; are_all_alike(done.items.as_slice(), &[Item::Enable(1)]));
     assert_eq!(rt; done.table.rows(), start.as_slice());
     assert_eq!(rt; done.armed, None);
-    Ok(())
-}
-
-// Numbers that look random, the same in each run.
-#[derive(Drop)]
-struct Dice {
-    state: u32,
-}
-
-impl Dice {
-    fn roll(&mut self, sides: u32) -> u32
-        requires { 0 < sides }
-    {
-        self.state = self.state.wrapping_mul(1_103_515_245).wrapping_add(12_345);
-        (self.state >> 16) % sides
-    }
-
-    fn last(&mut self) -> u8 {
-        match self.roll(7) {
-            0 | 1 => 1,
-            2 | 3 => 2,
-            4 | 5 => 3,
-            _ => 9,
-        }
-    }
-
-    fn operation(&mut self) -> Result<Psmo, OutOfRange> {
-        match self.roll(9) {
-            0 | 1 => enable(self.last(), false),
-            2 | 3 | 4 => enable(self.last(), true),
-            5 | 6 => disable(self.last()),
-            7 => delete(self.last()),
-            _ => Ok(Psmo::List),
-        }
-    }
-}
-
-#[test]
-fn the_plain_program_does_the_same(rt: HostRuntime) -> Result<(), Fail> {
-    let mut armed = false;
-    let mut kept = false;
-    for seed in 0..400 {
-        let mut dice = Dice { state: seed };
-        let on = dice.roll(4);
-        let start = [
-            profile(1, on == 0)?,
-            profile(2, on == 1)?,
-            profile(3, on == 2)?,
-        ];
-        let mut ops = Row::new(rt.alloc());
-        for _ in 0..=dice.roll(8) {
-            ops.append(&[dice.operation()?])?;
-        }
-        let done = run_on(rt.alloc(), &start, ops.as_slice())?;
-        let plain = execute_psmos(rt.alloc(), &start, ops.as_slice())?;
-        assert_eq!(rt; done.table.rows(), plain.profiles.as_slice());
-        assert!(rt; are_all_alike(done.items.as_slice(), plain.items.as_slice()));
-        assert_eq!(rt; done.armed, plain.armed);
-        armed = armed || done.armed.is_some();
-        kept = kept
-            || done
-                .items
-                .as_slice()
-                .iter()
-                .any(|item| matches!(item, Item::Delete(3)));
-    }
-    assert!(rt; armed && kept);
     Ok(())
 }

@@ -8,7 +8,7 @@ ghost use Rattle.result_store.specs.Stores.{IsStore, numbered, passed};
 use crate::places::{copy_results, find_result, mark_last, put_last, take_out};
 use iot_bytes::{NoMemory, Reserve, Row};
 use sgp_values::EimId;
-use small_card::codes::PENDING_LIMIT;
+use small_card::limits::MOST_PENDING;
 use small_card::{Item, PackageResult};
 use std::alloc::Global;
 use std::marker::Model;
@@ -64,7 +64,7 @@ impl Store {
         ensures { IfOk result (λ store. store ≡ record { pending = []; next = next }) }
     {
         Ok(Store {
-            pending: Reserve::with_room(alloc, PENDING_LIMIT)?,
+            pending: Reserve::with_room(alloc, MOST_PENDING)?,
             next,
         })
     }
@@ -77,7 +77,7 @@ impl Store {
         requires { IsStore (record { pending = pending; next = next }) }
         ensures { IfOk result (λ store. store ≡ record { pending = pending; next = next }) }
     {
-        let room = PENDING_LIMIT - pending.len();
+        let room = MOST_PENDING - pending.len();
         Ok(Store {
             pending: Reserve::of(pending, room)?,
             next,
@@ -90,7 +90,7 @@ impl Store {
     pub fn has_room(&self) -> bool
         ensures { result ≡ has_room self.now }
     {
-        self.pending.len() < PENDING_LIMIT && self.next <= LAST_WITH_ROOM
+        self.pending.len() < MOST_PENDING && self.next <= LAST_WITH_ROOM
     }
 
     /// The pending results, in rising numbers. It takes no memory.
@@ -189,7 +189,7 @@ impl Store {
         ensures { IfOk result (λ store. store ≡ self.now) }
     {
         Ok(Store {
-            pending: copy_results(alloc, self.pending.as_slice(), PENDING_LIMIT)?,
+            pending: copy_results(alloc, self.pending.as_slice(), MOST_PENDING)?,
             next: self.next,
         })
     }

@@ -1,4 +1,5 @@
-//! The codes of the items of a result, and the greatest sizes of a card's lists.
+//! The codes of a card's answers: those of a result's items here, those of a refused load in
+//! [`load`], those of a refused first eIM in [`initial`].
 
 /// The operation was done.
 pub const DONE: u8 = 0;
@@ -16,7 +17,7 @@ pub const ARMED: u8 = 3;
 /// The eIM that is to be added has an entry.
 pub const EXISTS: u8 = 1;
 
-/// The eIM that is to be added finds [`EIM_LIMIT`] entries.
+/// The eIM that is to be added finds [`MOST_EIMS`](crate::limits::MOST_EIMS) entries.
 pub const NO_ENTRY_LEFT: u8 = 2;
 
 /// The eIM that is to be added finds no association left.
@@ -25,14 +26,38 @@ pub const NO_ASSOCIATION_LEFT: u8 = 3;
 /// The eIM was deleted and no entry is left, which counts as done.
 pub const LAST_DELETED: u8 = 2;
 
-/// The most profiles of a table.
-pub const PROFILE_LIMIT: usize = 16;
+/// Why a card refuses to load a package.
+pub mod load {
+    /// The octets spell no signed package.
+    pub const MALFORMED: u8 = 1;
 
-/// The most eIMs of a card.
-pub const EIM_LIMIT: usize = 8;
+    /// The eIM has no entry.
+    pub const UNKNOWN_EIM: u8 = 2;
 
-/// The most operations of a package.
-pub const OPERATION_LIMIT: usize = 8;
+    /// The verdict on the signature is bad.
+    pub const BAD_VERDICT: u8 = 3;
 
-/// The most pending results of a card.
-pub const PENDING_LIMIT: usize = 8;
+    /// The package names the EID of another card.
+    pub const WRONG_EID: u8 = 4;
+
+    /// The package names another association than the entry's.
+    pub const WRONG_ASSOCIATION: u8 = 5;
+
+    /// The package's counter isn't above the entry's.
+    pub const REPLAY: u8 = 6;
+
+    /// The card has no room for a result.
+    pub const NO_ROOM: u8 = 7;
+
+    /// There are more octets than a card takes.
+    pub const TOO_LONG: u8 = 8;
+}
+
+/// Why a card refuses a first eIM.
+pub mod initial {
+    /// The card has an eIM.
+    pub const EIM_THERE: u8 = 1;
+
+    /// The associations are used up.
+    pub const NO_ASSOCIATION_LEFT: u8 = 2;
+}

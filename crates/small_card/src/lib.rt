@@ -6,8 +6,7 @@ pub mod codes;
 mod copies;
 mod items;
 mod laws;
-mod plain_eims;
-mod plain_profiles;
+pub mod limits;
 mod types;
 mod worked;
 
@@ -15,8 +14,6 @@ pub use laws::{
     counters_look_back, first_units_legal, never_returns, one_more_unit, rollback_restores,
     stays_valid, takes_once,
 };
-pub use plain_eims::{PlainEims, execute_ecos};
-pub use plain_profiles::{PlainProfiles, execute_psmos};
 pub use types::{
     Answer, Armed, Body, Command, Eco, EimEntry, EimLine, Item, Package, PackageResult, Profile,
     Psmo, Refused, Signed,

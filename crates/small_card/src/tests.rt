@@ -1,6 +1,6 @@
 use super::*;
 use iot_bytes::{NoMemory, Row};
-use sgp_values::{Address, EimId, Iccid, Key, Nickname, OutOfRange};
+use sgp_values::{EimId, Iccid, Nickname, OutOfRange};
 use std::alloc::Global;
 use std::test::Fail;
 
@@ -13,16 +13,6 @@ fn profile(last: u8, enabled: bool) -> Result<Profile, OutOfRange> {
         iccid: iccid(last)?,
         enabled,
         nickname: Nickname::of(b"")?,
-    })
-}
-
-fn entry(id: &[u8], association: u32) -> Result<EimEntry, OutOfRange> {
-    Ok(EimEntry {
-        id: EimId::of(id)?,
-        address: Address::of(b"")?,
-        key: Key::of(b"")?,
-        counter: 0,
-        association,
     })
 }
 
@@ -45,77 +35,6 @@ fn text(rt: &HostRuntime, item: &Item) -> Result<String, Fail> {
         Item::Eims(rows) => format!(in rt.alloc(); "eims={}", rows.len())?,
     };
     Ok(text)
-}
-
-#[test]
-fn operations_on_profiles(rt: HostRuntime) -> Result<(), Fail> {
-    let table = [profile(1, true)?, profile(2, false)?, profile(3, false)?];
-    let ops = [
-        Psmo::Disable { iccid: iccid(1)? },
-        Psmo::Enable {
-            iccid: iccid(2)?,
-            rollback: true,
-        },
-        Psmo::Delete { iccid: iccid(1)? },
-        Psmo::List,
-    ];
-    let end = execute_psmos(rt.alloc(), &table, &ops)?;
-    let left = [profile(1, false)?, profile(2, true)?, profile(3, false)?];
-    assert_eq!(rt; end.profiles.as_slice(), left.as_slice());
-    assert_eq!(rt; end.armed, Some(iccid(1)?));
-    let wanted = ["disable=0", "enable=0", "delete=3"];
-    assert_eq!(rt; end.items.len(), wanted.len());
-    for (item, want) in end.items.as_slice().iter().zip(wanted.iter()) {
-        assert_eq!(rt; text(&rt, item)?.as_str(), *want);
-    }
-    Ok(())
-}
-
-#[test]
-fn operations_on_eims(rt: HostRuntime) -> Result<(), Fail> {
-    let entries = [entry(b"e1", 1)?];
-    let mut ops = Row::new(rt.alloc());
-    for digit in b"12345678" {
-        let add = Eco::Add {
-            id: EimId::of(&[b'a', *digit])?,
-            address: Address::of(b"")?,
-            key: Key::of(b"")?,
-        };
-        assert!(rt; ops.push(add).is_ok());
-    }
-    let end = execute_ecos(rt.alloc(), &entries, 2, ops.as_slice())?;
-    let wanted = [
-        "add=0:2", "add=0:3", "add=0:4", "add=0:5", "add=0:6", "add=0:7", "add=0:8", "add=2:0",
-    ];
-    assert_eq!(rt; end.items.len(), wanted.len());
-    for (item, want) in end.items.as_slice().iter().zip(wanted.iter()) {
-        assert_eq!(rt; text(&rt, item)?.as_str(), *want);
-    }
-    assert_eq!(rt; end.next, 9);
-    assert_eq!(rt; end.entries.len(), 8);
-    assert_eq!(rt; end.entries.as_slice()[7], entry(b"a7", 8)?);
-    Ok(())
-}
-
-#[test]
-fn the_last_eim_leaves(rt: HostRuntime) -> Result<(), Fail> {
-    let entries = [entry(b"e1", 1)?];
-    let ops = [
-        Eco::Delete {
-            id: EimId::of(b"e1")?,
-        },
-        Eco::List,
-    ];
-    let end = execute_ecos(rt.alloc(), &entries, 2, &ops)?;
-    let wanted = ["drop=2", "eims=0"];
-    assert_eq!(rt; end.items.len(), wanted.len());
-    for (item, want) in end.items.as_slice().iter().zip(wanted.iter()) {
-        assert_eq!(rt; text(&rt, item)?.as_str(), *want);
-    }
-    assert_eq!(rt; end.entries.len(), 0);
-    assert!(rt; end.items.as_slice().iter().all(|item| item.is_done()));
-    assert!(rt; !Item::Dropped(1).is_done());
-    Ok(())
 }
 
 #[test]

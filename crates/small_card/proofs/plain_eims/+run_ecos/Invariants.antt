@@ -1,5 +1,0 @@
-use Rattle.std.proofs.Common.{length}
-use Rattle.small_card.proofs.plain_eims.+run_ecos.Given as goal
-
-abbrev pub decreases-run_ecos : goal.decreases-run_ecos
-decreases-run_ecos l = length l.ops.now

@@ -1,6 +1,0 @@
-use Rattle.std.proofs.Common.{◌≡◌, map, take}
-use Rattle.small_card.specs.Managers.{line_of}
-use Rattle.small_card.proofs.plain_eims.lines_of.Given as goal
-
-abbrev pub invariant-loop-entry : goal.invariant-loop-entry
-invariant-loop-entry l = l.out ≡ map line_of (take l.entry-index l.entries)
