@@ -14,3 +14,6 @@ pub mod Computing
 pub mod Flags
 pub mod Prefixes
 pub mod Happening
+pub mod PairTests
+pub mod Fresh
+pub mod Pending

@@ -9,6 +9,7 @@ use Rattle.small_card.specs.Histories.{History, card_of, kept}
 use Rattle.small_card.specs.declared.types.EimEntry.{EimEntry}
 use Rattle.small_card.specs.declared.types.Package.{Package}
 use Rattle.small_card.specs.declared.types.Refused.{Refused}
+use Rattle.small_card.specs.declared.limits.TheConstants.{MOST_PENDING}
 
 -- A refusal but for a replay carries no counters.
 unfoldable pub refused : ℕ → Refused
@@ -20,7 +21,7 @@ has_association id association es = list_any (λ e. is_eim id e && e.association
 
 -- Fewer than 8 results are pending, and two more numbers are left: the result's and its mark's.
 unfoldable pub has_room : Results → Bool
-has_room rs = not (nat_le 8 (length rs.pending)) && nat_le rs.next 4294967293
+has_room rs = not (nat_le MOST_PENDING (length rs.pending)) && nat_le rs.next 4294967293
 
 -- Unknown eIM: no entry has its identifier.
 unfoldable pub eim_refusal : SmallCard → Package → Option Refused

@@ -27,3 +27,9 @@ Moves (remove seq) before after = length after.results.pending < length before.r
 pub record HasPassed (before after : SmallCard) : Type 0 where
   pub associations : before.managers.next ≤ after.managers.next
   pub numbers : before.results.next ≤ after.results.next
+
+-- Both next numbers and the count of pending results are the same.
+pub record AreAlikeInNumbers (c d : SmallCard) : Type 0 where
+  pub associations : c.managers.next ≡ d.managers.next
+  pub numbers : c.results.next ≡ d.results.next
+  pub pending : length c.results.pending ≡ length d.results.pending

@@ -9,6 +9,7 @@ use Rattle.small_card.specs.declared.types.Eco.{Eco}
 use Rattle.small_card.specs.declared.types.Eco.TheVariants as eco
 use Rattle.small_card.specs.declared.types.Item.{Item}
 use Rattle.small_card.specs.declared.types.Item.TheVariants as item
+use Rattle.small_card.specs.declared.limits.TheConstants.{MOST_EIMS, GREATEST_ASSOCIATION}
 
 -- The entry has this identifier.
 abbrev pub is_eim : List ℕ → EimEntry → Bool
@@ -54,7 +55,7 @@ added id address key ms = record {
 
 -- Where this association is the next, the numbers are used up.
 unfoldable pub last_association : ℕ
-last_association = 4294967295
+last_association = GREATEST_ASSOCIATION
 
 -- No entry is left.
 unfoldable pub is_empty_list : List EimEntry → Bool
@@ -65,7 +66,7 @@ is_empty_list (e ∷ es) = false
 unfoldable pub do_eco : Managers → Eco → Managers × Item
 do_eco ms (eco.Add id address key) =
     if has_eim id ms.entries then (ms, item.Add 1 0)
-    else if nat_le 8 (length ms.entries) then (ms, item.Add 2 0)
+    else if nat_le MOST_EIMS (length ms.entries) then (ms, item.Add 2 0)
     else if ms.next == last_association then (ms, item.Add 3 0)
     else (added id address key ms, item.Add 0 ms.next)
 do_eco ms (eco.Update id address key) =

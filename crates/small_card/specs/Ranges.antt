@@ -23,6 +23,7 @@ use Rattle.small_card.specs.declared.types.Command.{Command}
 use Rattle.small_card.specs.declared.types.Command.TheVariants as command
 use Rattle.small_card.specs.declared.types.Answer.{Answer}
 use Rattle.small_card.specs.declared.types.Answer.TheVariants as answer
+use Rattle.small_card.specs.declared.limits.TheConstants.{MOST_PROFILES, MOST_EIMS, MOST_OPERATIONS, MOST_PENDING, GREATEST_COUNTER}
 
 -- An association or a sequence number is from 1 to 4,294,967,295.
 pub record IsNumber (n : ℕ) : Type 0 where
@@ -31,7 +32,7 @@ pub record IsNumber (n : ℕ) : Type 0 where
 
 -- The greatest counter is 2^63 - 1.
 abbrev pub greatest_counter : ℕ
-greatest_counter = 9223372036854775807
+greatest_counter = GREATEST_COUNTER
 
 -- A package's counter is from 1 to the greatest.
 pub record IsCounter (n : ℕ) : Type 0 where
@@ -41,7 +42,7 @@ pub record IsCounter (n : ℕ) : Type 0 where
 -- A package has from 1 to 8 operations, and a result as many items.
 pub record IsOneToEight (n : ℕ) : Type 0 where
   pub some : 1 ≤ n
-  pub few : n ≤ 8
+  pub few : n ≤ MOST_OPERATIONS
 
 -- An operation on profiles names an ICCID.
 unfoldable pub IsPsmo : Psmo → Type 0
@@ -92,7 +93,7 @@ pub record AreApart (p q : Profile) : Type 0 where
 
 -- A table has at most 16 profiles, with distinct ICCIDs and at most one enabled.
 pub record IsTable (ps : List Profile) : Type 0 where
-  pub few : length ps ≤ 16
+  pub few : length ps ≤ MOST_PROFILES
   pub each : Every IsProfile ps
   pub apart : EveryPair AreApart ps
 
@@ -110,7 +111,7 @@ pub record AreLinesApart (d e : EimLine) : Type 0 where
 
 -- An eIM list has at most 8 lines, each in range and all apart.
 pub record IsEimList (es : List EimLine) : Type 0 where
-  pub few : length es ≤ 8
+  pub few : length es ≤ MOST_EIMS
   pub each : Every IsEimLine es
   pub apart : EveryPair AreLinesApart es
 
@@ -164,7 +165,7 @@ IsBefore r s = r.seq < s.seq
 
 -- A list of results has at most 8, each in range and in rising numbers.
 pub record IsResultList (rs : List PackageResult) : Type 0 where
-  pub few : length rs ≤ 8
+  pub few : length rs ≤ MOST_PENDING
   pub each : Every IsResult rs
   pub rising : EveryPair IsBefore rs
 

@@ -11,6 +11,7 @@ use Rattle.sgp_values.specs.Ranges.{IsEimId, IsAddress, IsKey}
 use Rattle.small_card.specs.declared.types.EimEntry.{EimEntry}
 use Rattle.small_card.specs.declared.types.PackageResult.{PackageResult}
 use Rattle.small_card.specs.declared.types.Armed.{Armed}
+use Rattle.small_card.specs.declared.limits.TheConstants.{MOST_EIMS, MOST_PENDING}
 
 -- An entry is in range, and its association was given out before the next one.
 pub record IsEntry (next : ℕ) (e : EimEntry) : Type 0 where
@@ -28,7 +29,7 @@ pub record AreEntriesApart (d e : EimEntry) : Type 0 where
 
 -- At most 8 eIMs are in range and apart, and the next association is from 1.
 pub record AreManagers (ms : Managers) : Type 0 where
-  pub few : length ms.entries ≤ 8
+  pub few : length ms.entries ≤ MOST_EIMS
   pub each : Every (IsEntry ms.next) ms.entries
   pub apart : EveryPair AreEntriesApart ms.entries
   pub next : IsNumber ms.next
@@ -40,7 +41,7 @@ pub record IsPending (next : ℕ) (r : PackageResult) : Type 0 where
 
 -- At most 8 results are pending, in rising numbers, and the next number is from 1.
 pub record AreResults (rs : Results) : Type 0 where
-  pub few : length rs.pending ≤ 8
+  pub few : length rs.pending ≤ MOST_PENDING
   pub each : Every (IsPending rs.next) rs.pending
   pub rising : EveryPair IsBefore rs.pending
   pub next : IsNumber rs.next

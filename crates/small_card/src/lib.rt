@@ -7,13 +7,15 @@ mod copies;
 mod items;
 mod laws;
 pub mod limits;
+mod pairs;
 mod types;
 mod worked;
 
 pub use laws::{
-    counters_look_back, first_units_legal, never_returns, one_more_unit, rollback_restores,
-    stays_valid, takes_once,
+    counters_look_back, first_units_legal, fresh_is_valid, never_returns, one_more_unit,
+    pairs_are_tested, pending_results_change, rollback_restores, stays_valid, takes_once,
 };
+pub use pairs::{Apart, are_all_apart};
 pub use types::{
     Answer, Armed, Body, Command, Eco, EimEntry, EimLine, Item, Package, PackageResult, Profile,
     Psmo, Refused, Signed,
