@@ -5,9 +5,10 @@ use Rattle.std.proofs.lemmas.Bool.{cond_both, cond-true, eq-eqb, ltb-true}
 use Rattle.small_card.specs.Lists.{same, greatest}
 use Rattle.small_card.specs.declared.types.Body.{Body}
 use Rattle.small_card.specs.declared.types.PackageResult.{PackageResult}
-use Rattle.esipa_codec.specs.Eims.{EimState, Binding, greatest_counter, counters_of, bound_to, ordered_by, ordered, skipped, heard}
+use Rattle.esipa_codec.specs.Eims.{EimState, greatest_counter, counters_of, bound_to, ordered_by, ordered, skipped, heard}
 use Rattle.esipa_codec.specs.Events.{EimEvent, bind, order, skip, message, after_event}
 use Rattle.esipa_codec.specs.Records.{is_of, greater, record_of}
+use Rattle.esipa_codec.specs.declared.ends.Binding.{Binding}
 use Rattle.esipa_codec.specs.declared.messages.ToEim.{ToEim}
 use Rattle.esipa_codec.specs.declared.messages.ToEim.TheVariants as to_eim
 

@@ -4,15 +4,16 @@ use Rattle.std.specs.Prelude.{ℕ, ◌+◌, ◌-◌, ◌^◌, List, [], ◌∷�
 use Rattle.std.specs.List.{find}
 use Rattle.small_card.specs.Lists.{same, greatest}
 use Rattle.small_card.specs.declared.types.Body.{Body}
-use Rattle.small_card.specs.declared.types.Package.{Package}
 use Rattle.small_card.specs.declared.types.PackageResult.{PackageResult}
 use Rattle.small_card.specs.declared.types.Refused.{Refused}
+use Rattle.small_card.specs.declared.types.Signed.{Signed}
 use Rattle.package_codec.specs.Spelling.{signed}
 use Rattle.esipa_codec.specs.Records.{is_recorded}
 use Rattle.esipa_codec.specs.declared.messages.ToEim.{ToEim}
 use Rattle.esipa_codec.specs.declared.messages.ToEim.TheVariants as to_eim
 use Rattle.esipa_codec.specs.declared.messages.ToIpa.{ToIpa}
 use Rattle.esipa_codec.specs.declared.messages.ToIpa.TheVariants as to_ipa
+use Rattle.esipa_codec.specs.declared.ends.Binding.{Binding}
 use Rattle.esipa_codec.specs.declared.ends.BindEnd.{BindEnd}
 use Rattle.esipa_codec.specs.declared.ends.BindEnd.TheVariants as bound
 use Rattle.esipa_codec.specs.declared.ends.OrderEnd.{OrderEnd}
@@ -26,11 +27,6 @@ pub record Order : Type 0 where
   pub counter : ℕ
   pub body : Body
   pub skipped : Bool
-
--- An association, and the last counter that was used with it.
-pub record Binding : Type 0 where
-  pub association : ℕ
-  pub last : ℕ
 
 -- Orders stand oldest first, what was received newest first.
 pub record EimState : Type 0 where
@@ -107,18 +103,22 @@ counter_of (Some o) = Some o.counter
 unfoldable pub skip_end : EimState → Option ℕ
 skip_end e = counter_of (first_waiting e)
 
--- The package of an order, with an empty signature.
-abbrev pub package_of : EimState → Order → Package
-package_of e o = record { eim = e.id; eid = e.eid; association = o.association; counter = o.counter; body = o.body }
+-- The package of an order of this eIM for this card, with an empty signature.
+abbrev pub package_of : List ℕ → List ℕ → Order → Signed
+package_of id eid o = record {
+  «package» = record { eim = id; eid = eid; association = o.association; counter = o.counter; body = o.body };
+  signature = [];
+}
 
-abbrev pub answer_with : EimState → Option Order → ToIpa
-answer_with e None = to_ipa.Nothing
-answer_with e (Some o) = to_ipa.Package (signed (record { «package» = package_of e o; signature = [] }))
+-- The octets of the package of an order, or word that none waits.
+abbrev pub answer_with : List ℕ → List ℕ → Option Order → ToIpa
+answer_with id eid None = to_ipa.Nothing
+answer_with id eid (Some o) = to_ipa.Package (signed (package_of id eid o))
 
 -- What an eIM answers: a poll for its card by the first order that waits, a result of its own by an
 -- acknowledgement of that result's number, and all else not at all.
 unfoldable pub message_end : ToEim → EimState → MessageEnd
-message_end (to_eim.Poll eid) e = answer.Reply (if same eid e.eid then answer_with e (first_waiting e) else to_ipa.Nothing)
+message_end (to_eim.Poll eid) e = answer.Reply (if same eid e.eid then answer_with e.id e.eid (first_waiting e) else to_ipa.Nothing)
 message_end (to_eim.Result r) e = if same r.eim e.id then answer.Reply (to_ipa.Ack r.seq) else answer.Silent
 message_end (to_eim.Refused f) e = answer.Silent
 

@@ -39,3 +39,10 @@ pub enum MessageEnd {
     Silent,
     NoMemory,
 }
+
+/// What an eIM is bound to: an association, and the last counter that was used with it.
+#[derive(Clone, Copy, Debug, PartialEq, Eq)]
+pub struct Binding {
+    pub association: u32,
+    pub last: u64,
+}

@@ -7,7 +7,7 @@ mod laws;
 mod messages;
 mod worked;
 
-pub use ends::{Act, BindEnd, MessageEnd, OrderEnd};
+pub use ends::{Act, BindEnd, Binding, MessageEnd, OrderEnd};
 pub use laws::{
     counters_never_return, late_copies_change_no_record, records_stay, strikes_are_few,
 };
