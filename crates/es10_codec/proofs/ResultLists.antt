@@ -9,7 +9,7 @@ use Rattle.sgp_der.proofs.Lengths.{IsBytes}
 use Rattle.sgp_der.proofs.Fields.{on_some, guard_some}
 use Rattle.sgp_fields.specs.Values.{number_of}
 use Rattle.sgp_fields.specs.Lists.{list_at}
-use Rattle.sgp_fields.proofs.Codecs.{IsCodec, IsListed, IsSpelled, IsValue, IsLast}
+use Rattle.sgp_fields.proofs.Codecs.{IsCodec, IsListed, IsSpelled, IsValue, IsLast, listed}
 use Rattle.sgp_fields.proofs.Steps.{on_value, on_last, value_again, last_again, only_if_again}
 use Rattle.sgp_fields.proofs.ValueCodecs.{IsIn, number_codec}
 use Rattle.sgp_fields.proofs.ListCodec.{list_codec}
@@ -106,7 +106,7 @@ unfolding result_entry result
 entry_again r h = record { tag = 48; content = result_content r; octets = refl; low = omega arith; few = omega (arith, content_few r h); read = fields_again r h }
 
 result_listed : IsListed result_entry result IsResult
-result_listed = record { takes = entry_takes; again = entry_again }
+result_listed = listed entry_takes entry_again
 
 rising_pairs : Tests is_before IsBefore
 rising_pairs = record { takes = λ r s e. ltb-true r.seq s.seq e; again = λ r s h. lt-ltb r.seq s.seq h }
@@ -117,12 +117,12 @@ results_take content rs fits e =
     on_some (list_at result_entry 8 content) _ rs e (λ rows a e1.
     let t = (list_codec result_listed 8).takes content rows fits a in
     let g = guard_some (each_pair is_before rows) rows rs e1 in
-    subst (λ (x : List PackageResult). (content ≡ flat_map result x) × IsResultList x) g.1 (t.0, record { few = t.1.few; each = every_from IsResult rows t.1.each; rising = pairs_take rising_pairs rows g.0 }))
+    subst (λ (x : List PackageResult). (content ≡ flat_map result x) × IsResultList x) g.1 (t.0, record { few = t.1.few; each = t.1.each; rising = pairs_take rising_pairs rows g.0 }))
 
 results_again : (rs : List PackageResult) → IsResultList rs → results_at (results rs) ≡ Some rs
 unfolding results_at
 results_again rs h =
-    rw ((list_codec result_listed 8).again rs (record { few = h.few; each = every_to IsResult rs h.each }))
+    rw ((list_codec result_listed 8).again rs (record { few = h.few; each = h.each }))
     (only_if_again (each_pair is_before rs) rs (pairs_again rising_pairs rs h.rising))
 
 -- lists of results and their contents

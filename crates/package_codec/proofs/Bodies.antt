@@ -48,7 +48,7 @@ psmos_takes content b fits e =
     let t = (list_codec psmo_law 8).takes content ops fits read in
     let s = some_takes ops some there in
     let same : Psmos ops ≡ b = ap (λ (xs : List Psmo). Psmos xs) s.0 ∙ some_is _ _ e2 in
-    subst (IsOp body IsBody 164 content) same (record { octets = ap (element 164) t.0; fits = (record { some = s.1; few = t.1.few }, every_from _ ops t.1.each) })))
+    subst (IsOp body IsBody 164 content) same (record { octets = ap (element 164) t.0; fits = (record { some = s.1; few = t.1.few }, t.1.each) })))
 
 ecos_takes : (content : List ℕ) (b : Body) → IsBytes content → ecos_of content ≡ Some b → IsOp body IsBody 165 content b
 unfolding ecos_of body IsBody
@@ -58,7 +58,7 @@ ecos_takes content b fits e =
     let t = (list_codec eco_law 8).takes content ops fits read in
     let s = some_takes ops some there in
     let same : Ecos ops ≡ b = ap (λ (xs : List Eco). Ecos xs) s.0 ∙ some_is _ _ e2 in
-    subst (IsOp body IsBody 165 content) same (record { octets = ap (element 165) t.0; fits = (record { some = s.1; few = t.1.few }, every_from _ ops t.1.each) })))
+    subst (IsOp body IsBody 165 content) same (record { octets = ap (element 165) t.0; fits = (record { some = s.1; few = t.1.few }, t.1.each) })))
 
 body_of_takes : (tag : ℕ) (content : List ℕ) (b : Body) → IsBytes content → body_of tag content ≡ Some b → (element tag content ≡ body b) × IsBody b
 unfolding body_of
@@ -98,19 +98,19 @@ body_is (Ecos ops) = refl
 -- at most eight adds of 397 octets
 pub content_few : (b : Body) → IsBody b → length (body_content b) ≤ 3176
 unfolding IsBody
-content_few (Psmos ops) fits = omega (arith, psmos_few ops (from_every _ ops fits.1), fits.0.few)
-content_few (Ecos ops) fits = omega (arith, ecos_few ops (from_every _ ops fits.1), fits.0.few)
+content_few (Psmos ops) fits = omega (arith, psmos_few ops (fits.1), fits.0.few)
+content_few (Ecos ops) fits = omega (arith, ecos_few ops (fits.1), fits.0.few)
 
 psmos_again : (ops : List Psmo) → IsBody (Psmos ops) → psmos_of (flat_map psmo ops) ≡ Some (Psmos ops)
 unfolding psmos_of IsBody
 psmos_again ops fits =
-    let again = (list_codec psmo_law 8).again ops (record { few = fits.0.few; each = from_every _ ops fits.1 }) in
+    let again = (list_codec psmo_law 8).again ops (record { few = fits.0.few; each = fits.1 }) in
     rw again (rw (some_again ops fits.0.some) refl)
 
 ecos_again : (ops : List Eco) → IsBody (Ecos ops) → ecos_of (flat_map eco ops) ≡ Some (Ecos ops)
 unfolding ecos_of IsBody
 ecos_again ops fits =
-    let again = (list_codec eco_law 8).again ops (record { few = fits.0.few; each = from_every _ ops fits.1 }) in
+    let again = (list_codec eco_law 8).again ops (record { few = fits.0.few; each = fits.1 }) in
     rw again (rw (some_again ops fits.0.some) refl)
 
 body_of_again : (b : Body) → IsBody b → body_of (body_tag b) (body_content b) ≡ Some b

@@ -2,7 +2,8 @@
 use Rattle.std.proofs.Common.{◌≡◌, ℕ, ◌*◌, ◌≤◌, List, [], ◌∷◌, ◌++◌, length, Option, Some, None, IfSome, refl, sym, ap, subst, ◌∙◌, arith, inl, inr, append_assoc, length-append}
 use Rattle.std.specs.Prelude.{◌==◌}
 use Rattle.std.proofs.lemmas.List.{append-nil}
-use Rattle.std.specs.List.{flat_map, AllByRecursion}
+use Rattle.std.specs.List.{flat_map}
+use Rattle.small_card.specs.Lists.{Every}
 use Rattle.sgp_der.specs.Element.{element}
 use Rattle.sgp_der.specs.Fields.{field_at}
 use Rattle.sgp_der.proofs.Elements.{element_few}
@@ -10,7 +11,7 @@ use Rattle.sgp_der.proofs.Fields.{on_some}
 use Rattle.sgp_der.proofs.Lengths.{IsBytes}
 use Rattle.sgp_fields.specs.Fields.{optional}
 use Rattle.sgp_fields.specs.Values.{mark_of}
-use Rattle.sgp_fields.proofs.Codecs.{IsListed, IsSpelled}
+use Rattle.sgp_fields.proofs.Codecs.{IsListed, IsSpelled, listed}
 use Rattle.sgp_fields.proofs.Steps.{some_is, on_value, on_last, on_optional, on_end, value_again, last_again, optional_again, no_field_left, no_field_other}
 use Rattle.sgp_fields.proofs.ValueCodecs.{chosen, eim_id_codec, address_codec, key_codec, mark_codec}
 use Rattle.sgp_values.specs.Ranges.{IsEimId, IsAddress, IsKey}
@@ -177,9 +178,9 @@ eco_few (eco_op.Update id address key) fits =
 eco_few (eco_op.Delete id) fits = omega (arith, element_few 170 (element 128 id), id_few id fits)
 eco_few eco_op.List fits = omega (arith, element_few 139 [])
 
-pub ecos_few : (ops : List Eco) → AllByRecursion IsEco ops → length (flat_map eco ops) ≤ 397 * length ops
+pub ecos_few : (ops : List Eco) → Every IsEco ops → length (flat_map eco ops) ≤ 397 * length ops
 ecos_few [] fits = omega arith
 ecos_few (op ∷ ops) fits = omega (arith, length-append (eco op) (flat_map eco ops), eco_few op fits.0, ecos_few ops fits.1)
 
 pub eco_law : IsListed eco_of eco IsEco
-eco_law = record { takes = eco_takes; again = eco_again }
+eco_law = listed eco_takes eco_again

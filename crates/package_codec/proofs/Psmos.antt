@@ -2,14 +2,15 @@
 use Rattle.std.proofs.Common.{◌≡◌, ℕ, ◌*◌, ◌≤◌, Bool, true, false, List, [], ◌∷◌, ◌++◌, length, Option, Some, None, refl, sym, ap, subst, ◌∙◌, arith, inl, inr, length-append}
 use Rattle.std.specs.Prelude.{◌==◌, is_some}
 use Rattle.std.proofs.lemmas.List.{append-nil}
-use Rattle.std.specs.List.{flat_map, AllByRecursion}
+use Rattle.std.specs.List.{flat_map}
+use Rattle.small_card.specs.Lists.{Every}
 use Rattle.sgp_der.specs.Element.{element}
 use Rattle.sgp_der.proofs.Elements.{element_few}
 use Rattle.sgp_der.proofs.Fields.{on_some}
 use Rattle.sgp_der.proofs.Lengths.{IsBytes}
 use Rattle.sgp_fields.specs.Fields.{optional, optional_at}
 use Rattle.sgp_fields.specs.Values.{mark_of}
-use Rattle.sgp_fields.proofs.Codecs.{IsListed, IsSpelled}
+use Rattle.sgp_fields.proofs.Codecs.{IsListed, IsSpelled, listed}
 use Rattle.sgp_fields.proofs.Steps.{some_is, on_value, on_last, on_optional, on_end, value_again, last_again, optional_again, no_field_left}
 use Rattle.sgp_fields.proofs.ValueCodecs.{chosen, iccid_codec, mark_codec, no_content}
 use Rattle.sgp_values.specs.Iccids.{IsIccid}
@@ -147,9 +148,9 @@ psmo_few (psmo_op.Disable iccid) fits = omega (arith, element_few 161 (element 1
 psmo_few (psmo_op.Delete iccid) fits = omega (arith, element_few 162 (element 128 iccid), lone_few iccid fits)
 psmo_few psmo_op.List fits = omega (arith, element_few 131 [])
 
-pub psmos_few : (ops : List Psmo) → AllByRecursion IsPsmo ops → length (flat_map psmo ops) ≤ 30 * length ops
+pub psmos_few : (ops : List Psmo) → Every IsPsmo ops → length (flat_map psmo ops) ≤ 30 * length ops
 psmos_few [] fits = omega arith
 psmos_few (op ∷ ops) fits = omega (arith, length-append (psmo op) (flat_map psmo ops), psmo_few op fits.0, psmos_few ops fits.1)
 
 pub psmo_law : IsListed psmo_of psmo IsPsmo
-psmo_law = record { takes = psmo_takes; again = psmo_again }
+psmo_law = listed psmo_takes psmo_again

@@ -10,7 +10,7 @@ use Rattle.sgp_der.proofs.Fields.{on_some, guard_some}
 use Rattle.sgp_values.specs.Ranges.{IsEimId, IsAddress}
 use Rattle.sgp_fields.specs.Values.{number_of}
 use Rattle.sgp_fields.specs.Lists.{list_at}
-use Rattle.sgp_fields.proofs.Codecs.{IsCodec, IsListed, IsSpelled, IsValue, IsLast}
+use Rattle.sgp_fields.proofs.Codecs.{IsCodec, IsListed, IsSpelled, IsValue, IsLast, listed}
 use Rattle.sgp_fields.proofs.Steps.{some_is, on_value, on_last, value_again, last_again, only_if_again}
 use Rattle.sgp_fields.proofs.ValueCodecs.{octets, eim_id_codec, address_codec}
 use Rattle.sgp_fields.proofs.ListCodec.{list_codec}
@@ -97,7 +97,7 @@ unfolding eim_line_of eim_line
 entry_again e h = record { tag = 48; content = eim_line_content e; octets = refl; low = omega arith; few = omega (arith, content_few e h); read = line_again e h }
 
 pub eim_line_listed : IsListed eim_line_of eim_line IsEimLine
-eim_line_listed = record { takes = entry_takes; again = entry_again }
+eim_line_listed = listed entry_takes entry_again
 
 lines_take : (content : List ℕ) (es : List EimLine) → IsBytes content → eim_lines_at content ≡ Some es → (content ≡ eim_lines es) × IsEimList es
 unfolding eim_lines_at
@@ -105,12 +105,12 @@ lines_take content es fits e =
     on_some (list_at eim_line_of 8 content) _ es e (λ rows a e1.
     let t = (list_codec eim_line_listed 8).takes content rows fits a in
     let g = guard_some (each_pair are_lines_apart rows) rows es e1 in
-    subst (λ (x : List EimLine). (content ≡ flat_map eim_line x) × IsEimList x) g.1 (t.0, record { few = t.1.few; each = every_from IsEimLine rows t.1.each; apart = pairs_take line_pairs rows g.0 }))
+    subst (λ (x : List EimLine). (content ≡ flat_map eim_line x) × IsEimList x) g.1 (t.0, record { few = t.1.few; each = t.1.each; apart = pairs_take line_pairs rows g.0 }))
 
 lines_again : (es : List EimLine) → IsEimList es → eim_lines_at (eim_lines es) ≡ Some es
 unfolding eim_lines_at
 lines_again es h =
-    rw ((list_codec eim_line_listed 8).again es (record { few = h.few; each = every_to IsEimLine es h.each }))
+    rw ((list_codec eim_line_listed 8).again es (record { few = h.few; each = h.each }))
     (only_if_again (each_pair are_lines_apart es) es (pairs_again line_pairs es h.apart))
 
 -- eIM lists and their contents

@@ -9,7 +9,7 @@ use Rattle.sgp_der.proofs.Lengths.{IsBytes}
 use Rattle.sgp_der.proofs.Fields.{on_some}
 use Rattle.sgp_fields.specs.Values.{number_of}
 use Rattle.sgp_fields.specs.Lists.{list_at}
-use Rattle.sgp_fields.proofs.Codecs.{IsCodec, IsListed, IsSpelled, IsValue}
+use Rattle.sgp_fields.proofs.Codecs.{IsCodec, IsListed, IsSpelled, IsValue, listed}
 use Rattle.sgp_fields.proofs.Steps.{some_is, on_value, on_last, on_end, value_again, last_again}
 use Rattle.sgp_fields.proofs.ValueCodecs.{chosen}
 use Rattle.sgp_fields.proofs.ListCodec.{list_codec}
@@ -195,7 +195,7 @@ item_again (done.Dropped code) h = record { tag = 170; content = code_content co
 item_again (done.Eims es) h = record { tag = 171; content = eim_lines es; octets = refl; low = omega arith; few = omega (arith, eim_lines_few es h); read = rw (eim_lines_codec.again es h) refl }
 
 pub item_listed : IsListed item_of item IsItem
-item_listed = record { takes = λ tag content i fits e. let t = item_taken tag content i fits e in (t.octets, t.fits); again = item_again }
+item_listed = listed (λ tag content i fits e. let t = item_taken tag content i fits e in (t.octets, t.fits)) item_again
 
 -- an item has at most 2,268 octets
 item_few : (i : Item) → IsItem i → length (item i) ≤ 2268
@@ -232,12 +232,12 @@ items_take content is fits e =
     on_some (list_at item_of 8 content) _ is e (λ rows a e1.
     let t = (list_codec item_listed 8).takes content rows fits a in
     let s = some_takes rows is e1 in
-    subst (λ (x : List Item). (content ≡ flat_map item x) × IsItems x) s.0 (t.0, record { many = record { some = s.1; few = t.1.few }; each = every_from IsItem rows t.1.each }))
+    subst (λ (x : List Item). (content ≡ flat_map item x) × IsItems x) s.0 (t.0, record { many = record { some = s.1; few = t.1.few }; each = t.1.each }))
 
 items_again : (is : List Item) → IsItems is → items_at (items is) ≡ Some is
 unfolding items_at
 items_again is h =
-    rw ((list_codec item_listed 8).again is (record { few = h.many.few; each = every_to IsItem is h.each })) (some_again is h.many.some)
+    rw ((list_codec item_listed 8).again is (record { few = h.many.few; each = h.each })) (some_again is h.many.some)
 
 -- items and their contents
 pub items_codec : IsCodec items_at items IsItems

@@ -10,7 +10,7 @@ use Rattle.sgp_values.specs.Iccids.{IsIccid}
 use Rattle.sgp_values.specs.Ranges.{IsNickname}
 use Rattle.sgp_fields.specs.Values.{flag_content}
 use Rattle.sgp_fields.specs.Lists.{list_at}
-use Rattle.sgp_fields.proofs.Codecs.{IsCodec, IsListed, IsSpelled, IsValue, IsLast}
+use Rattle.sgp_fields.proofs.Codecs.{IsCodec, IsListed, IsSpelled, IsValue, IsLast, listed}
 use Rattle.sgp_fields.proofs.Steps.{some_is, on_value, on_last, value_again, last_again, only_if_again}
 use Rattle.sgp_fields.proofs.ValueCodecs.{octets, iccid_codec, nickname_codec, flag_codec, flag_few, IsAny}
 use Rattle.sgp_fields.proofs.ListCodec.{list_codec}
@@ -80,7 +80,7 @@ unfolding profile_of profile
 entry_again p h = record { tag = 48; content = profile_content p; octets = refl; low = omega arith; few = omega (arith, content_few p h); read = profile_again p h }
 
 pub profile_listed : IsListed profile_of profile IsProfile
-profile_listed = record { takes = entry_takes; again = entry_again }
+profile_listed = listed entry_takes entry_again
 
 table_takes : (content : List ℕ) (ps : List Profile) → IsBytes content → profiles_at content ≡ Some ps → (content ≡ profiles ps) × IsTable ps
 unfolding profiles_at
@@ -88,12 +88,12 @@ table_takes content ps fits e =
     on_some (list_at profile_of 16 content) _ ps e (λ rows a e1.
     let t = (list_codec profile_listed 16).takes content rows fits a in
     let g = guard_some (each_pair are_profiles_apart rows) rows ps e1 in
-    subst (λ (x : List Profile). (content ≡ flat_map profile x) × IsTable x) g.1 (t.0, record { few = t.1.few; each = every_from IsProfile rows t.1.each; apart = pairs_take profile_pairs rows g.0 }))
+    subst (λ (x : List Profile). (content ≡ flat_map profile x) × IsTable x) g.1 (t.0, record { few = t.1.few; each = t.1.each; apart = pairs_take profile_pairs rows g.0 }))
 
 table_again : (ps : List Profile) → IsTable ps → profiles_at (profiles ps) ≡ Some ps
 unfolding profiles_at
 table_again ps h =
-    rw ((list_codec profile_listed 16).again ps (record { few = h.few; each = every_to IsProfile ps h.each }))
+    rw ((list_codec profile_listed 16).again ps (record { few = h.few; each = h.each }))
     (only_if_again (each_pair are_profiles_apart ps) ps (pairs_again profile_pairs ps h.apart))
 
 -- tables and their contents

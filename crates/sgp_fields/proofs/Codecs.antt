@@ -1,5 +1,5 @@
 -- A value and its spelling: what is read is spelled so, and what is spelled is read again.
-use Rattle.std.proofs.Common.{◌≡◌, ℕ, ◌≤◌, List, [], ◌++◌, length, Option, Some, None, IfSome}
+use Rattle.std.proofs.Common.{◌≡◌, ℕ, ◌≤◌, List, ◌++◌, length, Option, Some, IfSome}
 use Rattle.sgp_der.specs.Element.{element, IsTag}
 use Rattle.sgp_der.proofs.Lengths.{IsBytes}
 use Rattle.sgp_fields.specs.Fields.{optional}
@@ -18,22 +18,39 @@ pub record IsSpelled {X : Type 0} (entry : ℕ → List ℕ → Option X) (spell
   pub few : length content ≤ 16777215
   pub read : entry tag content ≡ Some x
 
--- elements and their values
+-- the element of a tag and a content is the value's spelling, and the value is in range
+pub record IsTaken {X : Type 0} (spell : X → List ℕ) (Fits : X → Type 0) (tag : ℕ) (content : List ℕ) (x : X) : Type 0 where
+  pub octets : element tag content ≡ spell x
+  pub fits : Fits x
+
+-- elements of at most three length octets, and their values
 pub record IsListed {X : Type 0} (entry : ℕ → List ℕ → Option X) (spell : X → List ℕ) (Fits : X → Type 0) : Type 0 where
-  pub takes : (tag : ℕ) (content : List ℕ) (x : X) → IsBytes content → entry tag content ≡ Some x → (element tag content ≡ spell x) × Fits x
+  pub takes : (tag : ℕ) (content : List ℕ) (x : X) → IsBytes content → length content ≤ 16777215 → entry tag content ≡ Some x → IsTaken spell Fits tag content x
   pub again : (x : X) → Fits x → IsSpelled entry spell x
 
--- the bytes begin with a field of this tag and value, and the rest follows
-pub record IsValue {X : Type 0} (spell : X → List ℕ) (Fits : X → Type 0) (tag : ℕ) (bytes : List ℕ) (x : X) (rest : List ℕ) : Type 0 where
-  pub parts : bytes ≡ element tag (spell x) ++ rest
+-- the same, where no length has to be known
+pub listed : {X : Type 0} {entry : ℕ → List ℕ → Option X} {spell : X → List ℕ} {Fits : X → Type 0} → ((tag : ℕ) (content : List ℕ) (x : X) → IsBytes content → entry tag content ≡ Some x → (element tag content ≡ spell x) × Fits x)
+    → ((x : X) → Fits x → IsSpelled entry spell x) → IsListed entry spell Fits
+listed takes again = record { takes = λ tag content x fits few e. let t = takes tag content x fits e in record { octets = t.0; fits = t.1 }; again = again }
+
+-- the bytes begin with the spelling of a value, and the rest follows
+pub record IsFront {X : Type 0} (spell : X → List ℕ) (Fits : X → Type 0) (bytes : List ℕ) (x : X) (rest : List ℕ) : Type 0 where
+  pub parts : bytes ≡ spell x ++ rest
   pub fits : Fits x
   pub others : IsBytes rest
 
+-- values that are read from the front, whatever follows
+pub record IsPrefix {X : Type 0} (read : List ℕ → Option (X × List ℕ)) (spell : X → List ℕ) (Fits : X → Type 0) : Type 0 where
+  pub takes : (bytes : List ℕ) (x : X) (rest : List ℕ) → IsBytes bytes → read bytes ≡ Some (x, rest) → IsFront spell Fits bytes x rest
+  pub again : (x : X) (rest : List ℕ) → Fits x → read (spell x ++ rest) ≡ Some (x, rest)
+
+-- the bytes begin with a field of this tag and value, and the rest follows
+abbrev pub IsValue : {X : Type 0} → (X → List ℕ) → (X → Type 0) → ℕ → List ℕ → X → List ℕ → Type 0
+IsValue spell Fits tag bytes x rest = IsFront (λ v. element tag (spell v)) Fits bytes x rest
+
 -- the bytes begin with a field of this tag and value, or the field is left out
-pub record IsOptional {X : Type 0} (spell : X → List ℕ) (Fits : X → Type 0) (tag : ℕ) (bytes : List ℕ) (x : Option X) (rest : List ℕ) : Type 0 where
-  pub parts : bytes ≡ optional spell tag x ++ rest
-  pub fits : IfSome x Fits
-  pub others : IsBytes rest
+abbrev pub IsOptional : {X : Type 0} → (X → List ℕ) → (X → Type 0) → ℕ → List ℕ → Option X → List ℕ → Type 0
+IsOptional {X} spell Fits tag bytes x rest = IsFront (optional spell tag) (λ (v : Option X). IfSome v Fits) bytes x rest
 
 -- the bytes are a field of this tag and value
 pub record IsLast {X : Type 0} (spell : X → List ℕ) (Fits : X → Type 0) (tag : ℕ) (bytes : List ℕ) (x : X) : Type 0 where

@@ -3,3 +3,9 @@ pub mod Steps
 pub mod Loop
 pub mod ListCodec
 pub mod ValueCodecs
+pub mod Numbers
+pub mod Elements
+pub mod Clauses
+pub mod Appending
+pub mod Sizes
+pub mod ConfigCodec

@@ -1,15 +1,14 @@
 -- The steps of a reader, each with what it found as variables; and each read again from its spelling.
-use Rattle.std.proofs.Common.{◌≡◌, ◌≢◌, ℕ, ◌+◌, ◌≤◌, Bool, true, false, List, [], ◌∷◌, ◌++◌, length, Option, Some, None, IfSome, refl, sym, ap, subst, ◌∙◌, arith}
+use Rattle.std.proofs.Common.{◌≡◌, ◌≢◌, ℕ, ◌≤◌, Bool, true, false, List, [], ◌∷◌, ◌++◌, length, Option, Some, None, IfSome, refl, ap, subst, ◌∙◌}
 use Rattle.std.proofs.lemmas.Bool.{ne_eqb}
-use Rattle.std.proofs.lemmas.List.{append-nil}
 use Rattle.sgp_der.specs.Element.{element, IsTag}
 use Rattle.sgp_der.specs.Reading.{Part, element_at}
-use Rattle.sgp_der.specs.Fields.{◌>>=◌, part_at, tagged, field_at, only_at, ended}
+use Rattle.sgp_der.specs.Fields.{◌>>=◌, field_at, only_at, ended}
 use Rattle.sgp_der.proofs.Lengths.{IsBytes}
-use Rattle.sgp_der.proofs.Fields.{on_some, part_takes, part_again, field_takes, field_again, only_takes, only_again, nothing, IsField}
+use Rattle.sgp_der.proofs.Fields.{on_some, part_again, field_takes, field_again, only_takes, only_again, IsField}
 use Rattle.sgp_fields.specs.Values.{only_if}
 use Rattle.sgp_fields.specs.Fields.{value_at, last_at, found_or_out, optional_at, optional}
-use Rattle.sgp_fields.proofs.Codecs.{IsCodec, IsValue, IsOptional, IsLast, IsWhole}
+use Rattle.sgp_fields.proofs.Codecs.{IsCodec, IsFront, IsPrefix, IsValue, IsOptional, IsLast, IsWhole}
 
 pub some_is : {A : Type 0} (x y : A) → Some x ≡ Some y → x ≡ y
 some_is x y e = cc
@@ -35,6 +34,11 @@ on_only tag bytes f y fits e go =
     on_some (only_at tag bytes) f y e (λ content a e1.
     let t = only_takes tag bytes content fits a in
     go content (record { octets = t.0; within = t.1; few = t.2 }) e1)
+
+-- a value that is read from the front
+pub on_front : {X A P : Type 0} {read : List ℕ → Option (X × List ℕ)} {spell : X → List ℕ} {Fits : X → Type 0} → IsPrefix read spell Fits → (bytes : List ℕ) (f : X × List ℕ → Option A) (y : A) → IsBytes bytes
+    → (read bytes >>= f) ≡ Some y → ((x : X) (rest : List ℕ) → IsFront spell Fits bytes x rest → f (x, rest) ≡ Some y → P) → P
+on_front {X} {A} {P} {read} law bytes f y fits e go = on_some (read bytes) f y e (λ r a e1. go r.0 r.1 (law.takes bytes r.0 r.1 fits a) e1)
 
 -- a field
 pub on_field : {A P : Type 0} (tag : ℕ) (bytes : List ℕ) (f : Part → Option A) (y : A) → IsBytes bytes → (field_at tag bytes >>= f) ≡ Some y
@@ -62,6 +66,18 @@ pub value_again : {X : Type 0} {of : List ℕ → Option X} {spell : X → List 
     → value_at of tag (element tag (spell x) ++ rest) ≡ Some (x, rest)
 unfolding value_at
 value_again {X} {of} {spell} codec tag x rest low few fits = rw (field_again tag (spell x) rest low few) (rw (codec.again x fits) refl)
+
+value_takes : {X : Type 0} {of : List ℕ → Option X} {spell : X → List ℕ} {Fits : X → Type 0} → IsCodec of spell Fits → (tag : ℕ) (bytes : List ℕ) (x : X) (rest : List ℕ) → IsBytes bytes → value_at of tag bytes ≡ Some (x, rest)
+    → IsValue spell Fits tag bytes x rest
+value_takes {X} {of} {spell} {Fits} codec tag bytes x rest fits e =
+    on_value codec tag bytes (λ r. Some r) (x, rest) fits (rw e refl) (λ v left front same.
+    let is : (v, left) ≡ (x, rest) = some_is (v, left) (x, rest) same in
+    subst (λ (r : X × List ℕ). IsValue spell Fits tag bytes r.0 r.1) is front)
+
+-- a field is a value that is read from the front
+pub value_prefix : {X : Type 0} {of : List ℕ → Option X} {spell : X → List ℕ} {Fits : X → Type 0} → IsCodec of spell Fits → (tag : ℕ) → IsTag tag → ((x : X) → Fits x → length (spell x) ≤ 16777215)
+    → IsPrefix (value_at of tag) (λ x. element tag (spell x)) Fits
+value_prefix codec tag low few = record { takes = value_takes codec tag; again = λ x rest fits. value_again codec tag x rest low (few x fits) fits }
 
 -- the value of the one field
 pub on_last : {X A P : Type 0} {of : List ℕ → Option X} {spell : X → List ℕ} {Fits : X → Type 0} → IsCodec of spell Fits → (tag : ℕ) (bytes : List ℕ) (f : X → Option A) (y : A) → IsBytes bytes

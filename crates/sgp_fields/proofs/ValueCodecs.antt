@@ -1,9 +1,8 @@
 -- The codecs of the values that a field's content may be.
-use Rattle.std.proofs.Common.{◌≡◌, ℕ, ◌^◌, ◌<◌, ◌≤◌, Bool, true, false, cond, List, [], ◌∷◌, length, Some, None, refl, sym, ap, subst, ◌∙◌, arith, inl, inr}
+use Rattle.std.proofs.Common.{◌≡◌, ℕ, ◌^◌, ◌<◌, ◌≤◌, Bool, true, false, cond, List, [], length, Some, refl, ap, subst, ◌∙◌, arith, inl, inr}
 use Rattle.std.specs.Prelude.{◌==◌, ◌&&◌, ◌⊎◌, nat_le}
 use Rattle.std.proofs.lemmas.Bool.{eqb-true, leb-true, le-leb, and_parts, and_from}
 use Rattle.sgp_der.specs.Number.{uint, uint_of}
-use Rattle.sgp_der.specs.Fields.{◌>>=◌, ended}
 use Rattle.sgp_der.proofs.Lengths.{IsBytes}
 use Rattle.sgp_der.proofs.Fields.{on_some, guard_some, nothing}
 use Rattle.sgp_der.proofs.Values.{uint_takes, uint_again, uint_few}
@@ -12,7 +11,7 @@ use Rattle.sgp_values.specs.Eids.{IsEid}
 use Rattle.sgp_values.specs.Ranges.{IsEimId, IsAddress, IsKey, IsNickname}
 use Rattle.sgp_values.specs.Reading.{iccid_of, eid_of, eim_id_of, address_of, key_of, nickname_of}
 use Rattle.sgp_values.proofs.Reading.{iccid_takes, iccid_again, eid_takes, eid_again, eim_id_takes, eim_id_again, address_takes, address_again, key_takes, key_again, nickname_takes, nickname_again}
-use Rattle.sgp_fields.specs.Values.{only_if, flag, flag_content, flag_of_number, flag_of, number_of, mark_of}
+use Rattle.sgp_fields.specs.Values.{flag, flag_content, flag_of_number, flag_of, number_of, mark_of}
 use Rattle.sgp_fields.proofs.Codecs.{IsCodec}
 use Rattle.sgp_fields.proofs.Steps.{some_is, only_if_again}
 

@@ -1,3 +1,6 @@
 pub mod Values
 pub mod Fields
+pub mod Elements
 pub mod Lists
+pub mod Laws
+pub mod Config

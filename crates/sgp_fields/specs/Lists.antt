@@ -11,3 +11,8 @@ list_at entry (suc n) (b ∷ bs) = do
   x ← entry p.tag p.content
   xs ← list_at entry n p.rest
   Some (x ∷ xs)
+
+-- a list that isn't empty
+abbrev pub some_of : {X : Type 0} → List X → Option (List X)
+some_of [] = None
+some_of (x ∷ xs) = Some (x ∷ xs)

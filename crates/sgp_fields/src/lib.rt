@@ -4,6 +4,7 @@
 //! in `proofs/` tie that word to the spelling.
 #![tactic(auto)]
 
+mod config;
 mod fields;
 mod lengths;
 mod lists;
@@ -12,8 +13,9 @@ mod tests;
 mod values;
 mod writing;
 
-pub use fields::{last, optional, value};
-pub use lengths::element_len;
+pub use config::{EimConfig, config_len, put_config, read_config};
+pub use fields::{Fields, last, optional, value};
+pub use lengths::{element_len, field_len, flag_len, mark_len, number_len, optional_len};
 pub use lists::{Listed, list};
-pub use values::{Content, last_number, number};
-pub use writing::put_flag;
+pub use values::{Content, Octets, last_number, number};
+pub use writing::{Written, list_len, put_flag, put_list, put_mark, put_optional, write};

@@ -1,4 +1,4 @@
-ghost use Rattle.std.specs.Prelude.{◌≡◌, ◌≤◌, ℕ, List, Option, Some, None, IfSome, MatchOption};
+ghost use Rattle.std.specs.Prelude.{◌≡◌, ◌≤◌, ℕ, List, Option, Some, None, IfSome, MatchOption, length};
 ghost use Rattle.sgp_fields.specs.Values.{flag_of, number_of};
 ghost use Rattle.sgp_fields.specs.Fields.{value_at, last_at};
 
@@ -75,6 +75,47 @@ impl Content for Nickname {
     }
 }
 
+/// A value that is written as its octets, of which there are at most 128.
+pub trait Octets {
+    /// The octets of the value.
+    ghost octets_of: { Self → List ℕ };
+
+    /// Its octets.
+    fn as_octets(&self) -> &[u8]
+        ensures octets { result.now ≡ octets_of self.now }
+        ensures few { length result.now ≤ 128 };
+}
+
+impl Octets for EimId {
+    ghost use Rattle.sgp_fields.specs.Fields.{octets};
+
+    ghost octets_of = { octets };
+
+    fn as_octets(&self) -> &[u8] {
+        self.octets()
+    }
+}
+
+impl Octets for Address {
+    ghost use Rattle.sgp_fields.specs.Fields.{octets};
+
+    ghost octets_of = { octets };
+
+    fn as_octets(&self) -> &[u8] {
+        self.octets()
+    }
+}
+
+impl Octets for Key {
+    ghost use Rattle.sgp_fields.specs.Fields.{octets};
+
+    ghost octets_of = { octets };
+
+    fn as_octets(&self) -> &[u8] {
+        self.octets()
+    }
+}
+
 /// A flag is the integer 0 or 1.
 impl Content for bool {
     ghost content_of = { flag_of };
@@ -101,9 +142,9 @@ impl Content for () {
     }
 }
 
-// The number from the least to the greatest that an integer's content is.
+/// The number from the least to the greatest that an integer's content is.
 #[tactic(auto, unfolding(crate::specs::Values::number_of))]
-fn bounded(content: &[u8], least: u64, greatest: u64) -> Option<u64>
+pub(crate) fn bounded(content: &[u8], least: u64, greatest: u64) -> Option<u64>
     ensures value { result ≡ number_of least greatest content.now }
     ensures range { IfSome result (λ n. (least ≤ n) × (n ≤ greatest)) }
 {

@@ -1,9 +1,7 @@
-use Rattle.std.proofs.Common.{◌≡◌, ◌≢◌, ◌++◌, ◌∷◌, [], arith, sym, length-append, Result, Ok, Err, subst}
+use Rattle.std.proofs.Common.{◌≡◌, ◌≢◌, ◌++◌, ◌∷◌, [], arith, length-append}
 use Rattle.std.proofs.lemmas.Bool.Decides.{nat_tests}
 use Rattle.std.proofs.lemmas.List.{nil_from_length}
 use Rattle.std.proofs.lemmas.Result.{err_from_is_err_and}
-use Rattle.sgp_der.specs.Fields.{Gives}
-use Rattle.sgp_fields.specs.Lists.{list_at}
 use Rattle.sgp_fields.proofs.Loop.{goes_on, no_part, not_read, too_many, all_read}
 use Rattle.sgp_fields.proofs.lists.list.Goals as goal
 

@@ -1,0 +1,37 @@
+-- Steps of writers: an element whose head was put first, and octets that were written in pieces.
+use Rattle.std.proofs.Common.{◌≡◌, ℕ, ◌+◌, ◌≤◌, List, ◌∷◌, ◌++◌, length, take, sym, ap, ◌∙◌, arith, append_assoc, length-append}
+use Rattle.std.specs.List.{flat_map}
+use Rattle.std.proofs.lemmas.List.{take-take, take_all}
+use Rattle.std.proofs.Math.Seq.{take-append_seam}
+use Rattle.sgp_der.specs.Element.{element, len_octets}
+
+-- the head, with the length of the content, and then the content
+pub opened : (old content : List ℕ) (tag : ℕ) → old ++ element tag content ≡ (old ++ tag ∷ len_octets (length content)) ++ content
+unfolding element
+opened old content tag = sym (append_assoc old (tag ∷ len_octets (length content)) content)
+
+-- a list and two more
+pub apart : (xs ys zs : List ℕ) → xs ++ (ys ++ zs) ≡ (xs ++ ys) ++ zs
+apart xs ys zs = sym (append_assoc xs ys zs)
+
+-- what a writer's proof cites
+pub ruleset appended = (opened, apart)
+
+-- the head, then the content
+pub headed : (old content : List ℕ) (tag n : ℕ) → n ≡ length content → (old ++ tag ∷ len_octets n) ++ content ≡ old ++ element tag content
+unfolding element
+headed old content tag n e = rw e (append_assoc old (tag ∷ len_octets (length content)) content)
+
+-- what was kept of octets and more was kept of the octets
+pub kept_before : (old more new : List ℕ) → take (length (old ++ more)) new ≡ old ++ more → take (length old) new ≡ old
+kept_before old more new e =
+    let le : length old ≤ length (old ++ more) = omega (arith, length-append old more) in
+    sym (take-take (length old) (length (old ++ more)) new le) ∙ ap (take (length old)) e ∙ take-append_seam old more
+
+-- the length of two pieces
+pub length_both : (xs ys : List ℕ) (n m : ℕ) → length xs ≡ n → length ys ≡ m → n + m ≡ length (xs ++ ys)
+length_both xs ys n m e f = omega (arith, length-append xs ys)
+
+-- a list that was gone over to its end
+pub all_over : {X : Type 0} (spell : X → List ℕ) (xs : List X) (i len most : ℕ) → length xs ≤ i → len ≡ length (flat_map spell (take i xs)) → length (flat_map spell xs) ≤ most → len ≤ most
+all_over {X} spell xs i len most end so_far few = omega (arith, so_far ∙ ap (λ (ys : List X). length (flat_map spell ys)) (take_all i xs end))

@@ -1,0 +1,31 @@
+-- What a codec gives for the clauses of its reader, and for its laws.
+use Rattle.std.proofs.Common.{◌≡◌, ℕ, List, Option, Some, Result, Ok, Err, sym, ap, subst, ◌∙◌}
+use Rattle.std.specs.Prelude.{IfOk, IsErrOf}
+use Rattle.iot_bytes.specs.declared.memory.ReadError.{ReadError}
+use Rattle.iot_bytes.specs.declared.memory.ReadError.TheVariants.{Malformed, NoMemory}
+use Rattle.sgp_der.specs.Fields.{Gives}
+use Rattle.sgp_der.proofs.Lengths.{IsBytes}
+use Rattle.sgp_fields.proofs.Codecs.{IsCodec}
+use Rattle.sgp_fields.proofs.Steps.{some_is}
+
+-- what is read is spelled so
+pub found_by : {X : Type 0} {read : List ℕ → Option X} {spell : X → List ℕ} {Fits : X → Type 0} → IsCodec read spell Fits → (bytes : List ℕ) (r : Result X ReadError) → IsBytes bytes → Gives r (read bytes) → IfOk r (λ x. Fits x × (bytes ≡ spell x))
+found_by codec bytes (Ok x) fits e = let t = codec.takes bytes x fits e in (t.1, t.0)
+found_by codec bytes (Err error) fits e = tt
+
+-- what is spelled so is read
+pub only_by : {X : Type 0} {read : List ℕ → Option X} {spell : X → List ℕ} {Fits : X → Type 0} → IsCodec read spell Fits → (bytes : List ℕ) (r : Result X ReadError) → Gives r (read bytes) → (x : X) → Fits x → bytes ≡ spell x → Gives r (Some x)
+only_by {X} {read} codec bytes (Ok y) e x fits is = sym (codec.again x fits) ∙ ap read (sym is) ∙ e
+only_by {X} {read} codec bytes (Err Malformed) e x fits is = sym (codec.again x fits) ∙ ap read (sym is) ∙ e
+only_by codec bytes (Err NoMemory) e x fits is = tt
+
+-- what isn't read is spelled by no value
+pub malformed_by : {X : Type 0} {read : List ℕ → Option X} {spell : X → List ℕ} {Fits : X → Type 0} → IsCodec read spell Fits → (bytes : List ℕ) (r : Result X ReadError) → Gives r (read bytes) → IsErrOf r Malformed → (x : X) → Fits x → bytes ≡ spell x → ⊥
+malformed_by {X} {read} codec bytes r e wrong x fits is =
+    let none : Gives (Err Malformed) (read bytes) = subst (λ (s : Result X ReadError). Gives s (read bytes)) wrong e in
+    let some : read bytes ≡ Some x = ap read is ∙ codec.again x fits in
+    absurd cc
+
+-- two values with one spelling are the same
+pub one_by : {X : Type 0} {read : List ℕ → Option X} {spell : X → List ℕ} {Fits : X → Type 0} → IsCodec read spell Fits → (a b : X) → Fits a → Fits b → spell a ≡ spell b → a ≡ b
+one_by {X} {read} codec a b g h e = some_is a b (sym (codec.again a g) ∙ ap read e ∙ codec.again b h)
