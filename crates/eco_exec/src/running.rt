@@ -7,7 +7,7 @@ ghost use Rattle.std.specs.Prelude.{List};
 ghost use Rattle.eim_table.specs.Adding.{item_of};
 
 use eim_table::{AddEnd, Eims};
-use iot_bytes::{NoMemory, Row};
+use iot_bytes::{NoMemory, Reserve, Row};
 use small_card::codes::DONE;
 use small_card::{Eco, Item};
 use std::alloc::Global;
@@ -83,7 +83,7 @@ pub fn run(alloc: Global, eims: Eims, ops: &Row<Eco>) -> Result<EcoDone, NoMemor
 {
     run_ecos(
         alloc,
-        Row::with_room(alloc, ops.len())?,
+        Reserve::with_room(alloc, ops.len())?.into_row(),
         eims,
         ops.as_slice(),
     )

@@ -130,7 +130,7 @@ fn line_of(entry: &EimEntry) -> EimLine
 pub(crate) fn lines_of(alloc: Global, entries: &[EimEntry]) -> Result<Row<EimLine>, NoMemory>
     ensures { IfOk result (λ row. row ≡ map line_of entries.now) }
 {
-    let mut out = Row::with_room(alloc, entries.len())?;
+    let mut out = Reserve::with_room(alloc, entries.len())?.into_row();
     for entry in entries {
         out.push(line_of(entry)).map_err(|_| NoMemory)?;
     }

@@ -1,6 +1,6 @@
 //! The list whose spare room contracts see.
 
-ghost use Rattle.std.specs.Prelude.{◌≡◌, [], ◌∷◌, ◌++◌, ◌<◌, ◌+◌, ◌-◌, ◌≤◌, ◌↔◌, length, take, slice_get, slice_set, remove, IsTrue, IsOk, IfOk, OnOk, OnErr, IfErr};
+ghost use Rattle.std.specs.Prelude.{◌≡◌, [], ◌∷◌, ◌++◌, ◌<◌, ◌+◌, ◌-◌, ◌≤◌, ◌↔◌, length, take, drop, slice_get, slice_set, remove, IsTrue, IsOk, IfOk, OnOk, OnErr, IfErr};
 
 use crate::memory::NoMemory;
 use crate::row::Row;
@@ -48,6 +48,18 @@ impl<T> Reserve<T> {
         })
     }
 
+    /// The items of a `Vec`, with its memory.
+    pub(crate) fn from_vec(inner: Vec<T>) -> Reserve<T>
+        ensures { result.items ≡ inner.items }
+    {
+        Reserve { inner }
+    }
+
+    // The allocator that the list keeps.
+    pub(crate) fn allocator(&self) -> Global {
+        *self.inner.allocator()
+    }
+
     /// The items of a row, with memory for `room` more.
     ///
     /// Where memory runs out the row is dropped.
@@ -57,17 +69,29 @@ impl<T> Reserve<T> {
         ensures items { IfOk result (λ held. held.items ≡ row) }
         ensures spare { IfOk result (λ held. room ≤ held.spare) }
     {
-        let mut inner = row.into_vec();
-        inner.reserve(room)?;
-        Ok(Reserve { inner })
+        let mut held = row.into_reserve();
+        held.room(room)?;
+        Ok(held)
+    }
+
+    /// The items of a row, with memory for `room` more, or the row where memory ran out.
+    pub fn of_or_back(row: Row<T>, room: usize) -> Result<Reserve<T>, Row<T>>
+        ensures items { IfOk result (λ held. held.items ≡ row) }
+        ensures spare { IfOk result (λ held. room ≤ held.spare) }
+        ensures back { IfErr result (λ back. back ≡ row) }
+    {
+        let mut held = row.into_reserve();
+        match held.room(room) {
+            Ok(()) => Ok(held),
+            Err(_) => Err(held.into_row()),
+        }
     }
 
     /// The list alone. It takes no memory.
     pub fn into_row(self) -> Row<T>
         ensures { result ≡ self.items }
     {
-        let Reserve { inner } = self;
-        Row::from_vec(inner)
+        Row::from_reserve(self)
     }
 
     /// How many items the list has.
@@ -157,6 +181,14 @@ impl<T: Drop> Reserve<T> {
 }
 
 impl<T: Copy> Reserve<T> {
+    // Puts these items in place of the first ones.
+    pub(crate) fn overwrite(&mut self, items: &[T])
+        requires { length items.now ≤ length self.old.items }
+        ensures { self.new.items ≡ items.now ++ drop (length items.now) self.old.items }
+    {
+        put_front(self.inner.as_mut_slice(), items);
+    }
+
     /// Appends all the items, or none where memory ran out.
     pub fn append(&mut self, items: &[T]) -> Result<(), NoMemory>
         ensures ok { OnOk result (self.new.items ≡ self.old.items ++ items.now) }
@@ -167,4 +199,12 @@ impl<T: Copy> Reserve<T> {
         self.inner.extend_from_slice(items)?;
         Ok(())
     }
+}
+
+// Puts these items in place of the first ones.
+fn put_front<T: Copy>(out: &mut [T], items: &[T])
+    requires { length items.now ≤ length out.old }
+    ensures { out.new ≡ items.now ++ drop (length items.now) out.old }
+{
+    out[..items.len()].copy_from_slice(items);
 }

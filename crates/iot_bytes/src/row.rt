@@ -1,20 +1,25 @@
 //! The list of the public surface.
 
-ghost use Rattle.std.specs.Prelude.{◌≡◌, [], ◌∷◌, ◌++◌, ◌<◌, ◌≤◌, ◌↔◌, length, take, slice_get, slice_set, remove, IsTrue, IfOk, OnOk, OnErr, IfErr};
+ghost use Rattle.std.specs.Prelude.{◌≡◌, [], ◌<◌, ◌≤◌, ◌↔◌, length, take, slice_get, slice_set, remove, IsTrue, IfOk};
+ghost use Rattle.std.specs.Borrow.{Lends, sem};
+ghost use Rattle.iot_bytes.specs.contracts.row.Row.{the_row};
+ghost use Rattle.iot_bytes.specs.contracts.reserve.Reserve.{the_row as held_row};
 
 use crate::memory::NoMemory;
+use crate::reserve::Reserve;
 use std::alloc::Global;
 use std::marker::Model;
-use std::mem;
+use std::ops::{Deref, DerefMut};
 
 /// A list that contracts see as the plain list of its items.
 ///
-/// It keeps the allocator that it was made with, so a call that may grow it takes none. Its spare
-/// room is no part of what contracts see: for a list whose pushes must not fail later there is
-/// [`Reserve`](crate::Reserve).
+/// It is lent as a [`Reserve`], whose contracts see its spare room too: what may grow it, as
+/// [`push`](Reserve::push) and [`append`](Reserve::append), is the reserve's. How much room there
+/// is lasts as long as one loan: bind it once where two calls rest on it. The list keeps the
+/// allocator that it was made with, so a call that may grow it takes none.
 #[derive(Debug, Drop)]
 pub struct Row<T> {
-    inner: Vec<T>,
+    held: Reserve<T>,
 }
 
 impl<T> Model for Row<T> {
@@ -25,7 +30,7 @@ impl<T> Model for Row<T> {
 
     ghost coded = { coded_list T.code };
 
-    ghost view = { λ row. row.inner.items };
+    ghost view = { λ row. row.held.items };
 }
 
 impl<T> Row<T> {
@@ -34,85 +39,53 @@ impl<T> Row<T> {
         ensures { result ≡ [] }
     {
         Row {
-            inner: Vec::new(alloc),
+            held: Reserve::new(alloc),
         }
     }
 
-    /// The empty list, with memory for `n` items taken at once.
-    pub fn with_room(alloc: Global, n: usize) -> Result<Row<T>, NoMemory>
-        ensures { IfOk result (λ row. row ≡ []) }
-    {
-        Ok(Row {
-            inner: Vec::with_capacity(alloc, n)?,
-        })
-    }
-
     /// The items of a `Vec`, with its memory. It takes no further memory.
-    pub fn from_vec(inner: Vec<T>) -> Row<T>
-        ensures { result ≡ inner.items }
+    pub fn from_vec(items: Vec<T>) -> Row<T>
+        ensures { result ≡ items.items }
     {
-        Row { inner }
+        Row {
+            held: Reserve::from_vec(items),
+        }
     }
 
-    // The memory of the list, for the crate's other lists.
-    pub(crate) fn into_vec(self) -> Vec<T>
+    /// The items of a reserve, with its room.
+    pub fn from_reserve(held: Reserve<T>) -> Row<T>
+        ensures { result ≡ held.items }
+    {
+        Row { held }
+    }
+
+    /// The list with its room.
+    pub fn into_reserve(self) -> Reserve<T>
         ensures { result.items ≡ self }
     {
-        let Row { inner } = self;
-        inner
-    }
-
-    // The allocator that the list keeps.
-    pub(crate) fn allocator(&self) -> Global {
-        *self.inner.allocator()
+        let Row { held } = self;
+        held
     }
 
     /// How many items the list has.
     pub fn len(&self) -> usize
         ensures { result ≡ length self.now }
     {
-        self.inner.len()
+        self.held.len()
     }
 
     /// Whether the list has no item.
     pub fn is_empty(&self) -> bool
         ensures { IsTrue result ↔ (self.now ≡ []) }
     {
-        self.inner.is_empty()
+        self.held.is_empty()
     }
 
     /// The items, in their order.
     pub fn as_slice(&self) -> &[T]
         ensures { result.now ≡ self.now }
     {
-        self.inner.as_slice()
-    }
-
-    /// Appends an item, or hands it back where memory ran out. It asks for memory only where
-    /// [`spare`](Row::spare) is 0.
-    pub fn push(&mut self, item: T) -> Result<(), T>
-        ensures ok { OnOk result (self.new ≡ self.old ++ item ∷ []) }
-        ensures err { IfErr result (λ back. (back ≡ item) × (self.new ≡ self.old)) }
-    {
-        match self.inner.push(item) {
-            Ok(()) => Ok(()),
-            Err(refused) => Err(refused.value),
-        }
-    }
-
-    /// Takes memory until [`spare`](Row::spare) is at least `more`.
-    pub fn room(&mut self, more: usize) -> Result<(), NoMemory>
-        ensures { self.new ≡ self.old }
-    {
-        self.inner.reserve(more)?;
-        Ok(())
-    }
-
-    /// How many more items can be pushed before the list asks for memory.
-    pub fn spare(&self) -> usize {
-        let len = self.inner.len();
-        let capacity = self.inner.capacity();
-        capacity.saturating_sub(len)
+        self.held.as_slice()
     }
 
     /// Puts another item at a place, and hands the former one back. It takes no memory.
@@ -121,7 +94,7 @@ impl<T> Row<T> {
         ensures former { slice_get self.old at ≡ Some result }
         ensures items { self.new ≡ slice_set self.old at item }
     {
-        mem::replace(&mut self.inner[at], item)
+        self.held.set(at, item)
     }
 
     /// Takes an item out and closes up. It takes no memory.
@@ -130,7 +103,7 @@ impl<T> Row<T> {
         ensures item { slice_get self.old at ≡ Some result }
         ensures rest { self.new ≡ remove self.old at }
     {
-        self.inner.remove(at)
+        self.held.remove(at)
     }
 }
 
@@ -140,27 +113,55 @@ impl<T: Drop> Row<T> {
         requires { len ≤ length self.old }
         ensures { self.new ≡ take len self.old }
     {
-        self.inner.truncate(len);
+        self.held.cut(len);
     }
 }
 
 impl<T: Copy> Row<T> {
-    /// Appends all the items, or none where memory ran out.
-    pub fn append(&mut self, items: &[T]) -> Result<(), NoMemory>
-        ensures ok { OnOk result (self.new ≡ self.old ++ items.now) }
-        ensures err { OnErr result (self.new ≡ self.old) }
-    {
-        self.inner.extend_from_slice(items)?;
-        Ok(())
-    }
-
     /// A list of the same items, in memory of its own.
     pub fn copy(&self, alloc: Global) -> Result<Row<T>, NoMemory>
         ensures { IfOk result (λ row. row ≡ self.now) }
     {
-        let items = self.inner.as_slice();
-        Ok(Row {
-            inner: Vec::from_slice(alloc, items)?,
-        })
+        let items = self.held.as_slice();
+        Ok(Row::from_vec(Vec::from_slice(alloc, items)?))
     }
+}
+
+impl<T> Deref for Row<T> {
+    type Target = Reserve<T>;
+
+    ghost deref_gives = { λ row held. held.items ≡ row };
+
+    fn deref(&self) -> &Reserve<T> {
+        &self.held
+    }
+}
+
+impl<T> DerefMut for Row<T> {
+    ghost deref_mut_gives = { λ row held. held.items ≡ row };
+
+    fn deref_mut(&mut self) -> &mut Reserve<T>
+        ensures* writes_back { sem 𝓛 (Lends (the_row T.row) (held_row T.row) self.entry result (λ left. left.items)) }
+        ensures items { result.now.items ≡ self.old }
+    {
+        &mut self.held
+    }
+}
+
+impl<T: PartialEq> PartialEq for Row<T> {
+    ghost use Rattle.std.specs.Cmp.Lexicographic.{pointwise, lists_per};
+
+    ghost eq = { pointwise T.eq };
+
+    ghost laws = { lists_per T.laws };
+
+    fn eq(&self, other: &Row<T>) -> bool {
+        self.as_slice() == other.as_slice()
+    }
+}
+
+impl<T: Eq> Eq for Row<T> {
+    ghost use Rattle.std.specs.Cmp.Lexicographic.{lists_equiv};
+
+    ghost laws = { lists_equiv T.Eq.laws };
 }

@@ -56,12 +56,25 @@ fn is_line(end: LineEnd, content: &[u8]) -> bool {
 
 #[test]
 fn a_row_grows(rt: HostRuntime) -> Result<(), Fail> {
-    let mut row = Row::with_room(rt.alloc(), 2)?;
+    let mut row = Row::new(rt.alloc());
     assert!(rt; row.push(1).is_ok());
     row.append(&[2, 3])?;
     row.room(10)?;
     assert!(rt; row.spare() >= 10);
-    assert_eq!(rt; row.copy(rt.alloc())?.as_slice(), [1, 2, 3].as_slice());
+    assert!(rt; row.copy(rt.alloc())? == row_of(rt.alloc(), &[1, 2, 3])?);
+    Ok(())
+}
+
+// Each push takes one of the spare room, and so many pushes succeed.
+#[test]
+fn a_row_takes_as_many_as_it_has_room_for(rt: HostRuntime) -> Result<(), Fail> {
+    let mut row = Reserve::with_room(rt.alloc(), 5)?.into_row();
+    let room = row.spare();
+    assert!(rt; room >= 5);
+    for left in (0..room).rev() {
+        assert!(rt; row.push(7).is_ok());
+        assert_eq!(rt; row.spare(), left);
+    }
     Ok(())
 }
 
@@ -77,7 +90,9 @@ fn a_row_shrinks(rt: HostRuntime) -> Result<(), Fail> {
 
 #[test]
 fn a_reserve_has_its_room(rt: HostRuntime) -> Result<(), Fail> {
-    let mut held = Reserve::of(row_of(rt.alloc(), &[1])?, 3)?;
+    let Ok(mut held) = Reserve::of_or_back(row_of(rt.alloc(), &[1])?, 3) else {
+        return Err("memory ran out".into());
+    };
     assert!(rt; held.push(2).is_ok());
     held.append(&[3, 4])?;
     held.room(100)?;
@@ -103,6 +118,18 @@ fn frames_come_in_any_pieces(rt: HostRuntime) -> Result<(), Fail> {
         let end = first_frame(rt.alloc(), &[0, 0, 0, 2, 7, 8, 9], piece)?;
         assert!(rt; is_frame(end, &[7, 8]));
     }
+    Ok(())
+}
+
+#[test]
+fn a_frame_is_written_in_place(rt: HostRuntime) -> Result<(), Fail> {
+    let mut out = Row::new(rt.alloc());
+    begin_frame(&mut out)?;
+    out.append(&[7; 0x102])?;
+    end_frame(&mut out);
+    let bytes = out.as_slice();
+    assert_eq!(rt; bytes.get(..5), Some([0, 0, 1, 2, 7].as_slice()));
+    assert!(rt; is_frame(first_frame(rt.alloc(), bytes, 100)?, &[7; 0x102]));
     Ok(())
 }
 

@@ -7,7 +7,7 @@ ghost use Rattle.iot_program.specs.Steps.{Sent};
 
 use crate::stop::Stop;
 use es10_codec::{write_answer, write_stopped};
-use iot_bytes::{NoMemory, Row, Sink, send};
+use iot_bytes::{NoMemory, Reserve, Row, Sink, send};
 use small_card::Answer;
 use std::alloc::Global;
 
@@ -16,7 +16,7 @@ fn framed(alloc: Global, content: &[u8]) -> Result<Row<u8>, NoMemory>
     requires { length content.now < 2 ^ 32 }
     ensures { IfOk result (λ out. out ≡ frame content.now) }
 {
-    let mut out = Row::with_room(alloc, 4 + content.len())?;
+    let mut out = Reserve::with_room(alloc, 4 + content.len())?.into_row();
     let len = content.len() as u32;
     out.append(&len.to_be_bytes())?;
     out.append(content)?;

@@ -6,7 +6,7 @@ ghost use Rattle.small_card.specs.declared.types.Body.TheVariants.{Psmos};
 ghost use Rattle.psmo_exec.specs.Flags.{IsRun};
 
 use crate::operation::{armed_after, is_there, perform};
-use iot_bytes::{NoMemory, Row};
+use iot_bytes::{NoMemory, Reserve, Row};
 use profile_table::Table;
 use sgp_values::Iccid;
 use small_card::{Item, Psmo};
@@ -44,7 +44,7 @@ fn run_all(
     ensures { IfOk result (λ end. IsRun former.now table.old ops.now table.new end.items end.armed) }
 {
     let mut armed = false;
-    let mut items = Row::with_room(alloc, ops.len())?;
+    let mut items = Reserve::with_room(alloc, ops.len())?.into_row();
     for op in ops {
         let there = is_there(former, table);
         let item = perform(alloc, former, armed, table, op)?;

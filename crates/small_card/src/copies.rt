@@ -1,7 +1,7 @@
 ghost use Rattle.std.specs.Prelude.{◌≡◌, IfOk};
 
 use crate::types::{Body, Item, PackageResult, Profile};
-use iot_bytes::{NoMemory, Row};
+use iot_bytes::{NoMemory, Reserve, Row};
 use std::alloc::Global;
 
 impl Body {
@@ -40,7 +40,7 @@ impl Item {
 fn copy_items(alloc: Global, items: &[Item]) -> Result<Row<Item>, NoMemory>
     ensures { IfOk result (λ row. row ≡ items.now) }
 {
-    let mut out = Row::with_room(alloc, items.len())?;
+    let mut out = Reserve::with_room(alloc, items.len())?.into_row();
     for item in items {
         if out.push(item.copy(alloc)?).is_err() {
             return Err(NoMemory);

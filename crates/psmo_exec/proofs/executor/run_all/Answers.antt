@@ -4,7 +4,7 @@ use Rattle.psmo_exec.proofs.Looking.{begun, step_on, step_off, all_done}
 use Rattle.psmo_exec.proofs.executor.run_all.Goals as goal
 
 pub loop-op-init : goal.loop-op-init
-loop-op-init c = rw c.in_ok-items.ensures (begun c.args.former.now c.args.table.now c.args.ops.now c.requires)
+loop-op-init c = rw (c.into_row-items.ensures, c.in_ok-with_room.ensures.items) (begun c.args.former.now c.args.table.now c.args.ops.now c.requires)
 
 pub loop-op-preserved : goal.loop-op-preserved
 loop-op-preserved c =

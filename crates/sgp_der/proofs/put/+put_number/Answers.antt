@@ -12,4 +12,5 @@ returns-clause-ok t c =
           let low : c.args.n % 256 ≡ c.args.n = omega (arith, w.if-n-ge-FROM_TWO.false) in
           rw (w.out-is, low, uint_low c.args.n w.if-n-ge-FROM_TWO.false) refl
     ] in
-    rw whole at c.append.ensures.ok
+    let ok = rw c.deref_mut.ensures.items at c.append.ensures.ok in
+    rw whole at ok

@@ -24,7 +24,7 @@ returns-in_err-row g c =
 pub loop-rest-preserved : goal.loop-rest-preserved
 loop-rest-preserved g c =
     let ne : c.loop-rest.rest.now ≢ [] = grind (arith, nat_tests) in
-    let pushed : c.push.new.self ≡ c.loop-rest.rows ++ c.in_ok-row.row ∷ [] = grind arith in
+    let pushed : c.push.new.self.items ≡ c.loop-rest.rows ++ c.in_ok-row.row ∷ [] = grind arith in
     rw pushed (record {
       few = omega (arith, length-append c.loop-rest.rows (c.in_ok-row.row ∷ []));
       so_far = goes_on g.R.Listed.entry_of c.args.most c.loop-rest.rows c.loop-rest.rest.now _ c.in_ok-row.row _ (omega arith) ne c.in-Some.ensures c.in_ok-row.ensures c.loop-rest.invariant.so_far;
