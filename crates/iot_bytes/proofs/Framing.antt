@@ -3,7 +3,7 @@ use Rattle.std.proofs.Common.{◌≡◌, ℕ, ◌+◌, ◌<◌, ◌≤◌, List,
 use Rattle.std.specs.Int.{w32, to_be_bytes, from_be_bytes}
 use Rattle.std.proofs.lemmas.List.{take-append-drop, length-take-le, drop-drop, length-drop}
 use Rattle.std.proofs.lemmas.Nat.{be_bytes_4}
-use Rattle.iot_bytes.specs.Frames.{frame, announced, IsLeft, IsInside}
+use Rattle.iot_bytes.specs.Frames.{frame, announced, IsLeftShort, IsInside}
 use Rattle.iot_bytes.specs.declared.frame.TheConstants.{FRAME_LIMIT}
 
 abbrev pub IsBytes : List ℕ → Type 0
@@ -23,6 +23,6 @@ frame_whole bytes head f n left fits long first number small len body after =
     (omega arith, rest, sym whole, after)
 
 -- what was taken behind the length lies inside the frame
-pub left_inside : (bytes : List ℕ) (left : Option (List ℕ)) (most : ℕ) → 4 ≤ length bytes → announced bytes ≤ FRAME_LIMIT → most ≡ announced bytes → IsLeft (drop 4 bytes) left most → IsInside bytes left
+pub left_inside : (bytes : List ℕ) (left : Option (List ℕ)) (most : ℕ) → 4 ≤ length bytes → announced bytes ≤ FRAME_LIMIT → most ≡ announced bytes → IsLeftShort (drop 4 bytes) left most → IsInside bytes left
 left_inside bytes left most long small same (taken, le, few, is) =
     inr (small, (4 + taken, omega (arith, le, length-drop 4 bytes), omega (arith, few, same), is ∙ ap (λ (r : List ℕ). Some r) (drop-drop taken 4 bytes)))

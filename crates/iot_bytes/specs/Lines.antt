@@ -24,7 +24,7 @@ LineGives bytes limit (Line l) left = (length l ≤ limit) × NoBreak l × (((re
 LineGives bytes limit End left = (bytes ≡ []) × (left ≡ Some [])
 LineGives bytes limit TooLong left = (front : List ℕ) × (length front ≡ limit + 1) × Came bytes front left
 LineGives bytes limit ReadFault left = LineLeft bytes limit left
-LineGives bytes limit NoMemory left = LineLeft bytes (limit + 1) left
+LineGives bytes limit NoMemory left = LineLeft bytes limit left
 
 -- the next octet, or the end
 abbrev pub NextGives : List ℕ → Next → Option (List ℕ) → Type 0

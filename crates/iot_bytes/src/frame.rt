@@ -1,19 +1,21 @@
 //! Frames: four octets of length, big-endian, and so many octets.
 
-ghost use Rattle.std.specs.Prelude.{◌≡◌, ℕ, ◌+◌, ◌<◌, ◌≤◌, List, [], ◌++◌, length, take, drop, Option, Some, None, IfOk, slice_index};
+ghost use Rattle.std.specs.Prelude.{◌≡◌, ℕ, ◌+◌, ◌^◌, ◌<◌, ◌≤◌, List, [], ◌++◌, length, take, drop, Option, Some, None, OnOk, OnErr, slice_index};
 ghost use Rattle.std.specs.List.{All, flat_map};
 ghost use Rattle.iot_bytes.specs.Causes.{Rose};
-ghost use Rattle.iot_bytes.specs.Frames.{frame, FrameGives, IsFrameDecided};
+ghost use Rattle.iot_bytes.specs.Frames.{frame, blank_head, FrameGives, IsFrameDecided};
 ghost use Rattle.iot_bytes.specs.Fill.{Fills};
 
+use crate::memory::NoMemory;
 use crate::row::Row;
 use crate::source::Source;
 use std::alloc::Global;
 
-/// The greatest length of a frame's content, in octets.
+/// The greatest length of a frame's content that is read, in octets.
 pub const FRAME_LIMIT: u32 = 262_144;
 
-const HEAD_LEN: usize = 4;
+/// How many octets of length stand before a frame's content.
+pub const FRAME_HEAD_LEN: usize = 4;
 
 /// How reading a frame ended.
 #[derive(Debug, Drop)]
@@ -26,7 +28,7 @@ pub enum FrameEnd {
     Torn,
     /// The announced length, which is above [`FRAME_LIMIT`]. Its content isn't read.
     TooLong(u64),
-    /// The source failed. Octets of this frame may have been taken, and none from behind it.
+    /// The source failed. Octets of this frame may have been taken, but not all of them.
     ReadFault,
     /// Memory ran out. Octets of the length may have been taken, and none from behind them.
     NoMemory,
@@ -67,7 +69,7 @@ pub fn read_frame<S: Source>(alloc: Global, source: &mut S) -> FrameEnd
     ensures later { S.faults source.old ≤ S.faults source.new }
     ensures fault { result ≡ FrameEnd.ReadFault → Rose (S.faults source.old) (S.faults source.new) }
 {
-    let mut head = [0; HEAD_LEN];
+    let mut head = [0; FRAME_HEAD_LEN];
     match fill(source, &mut head) {
         FillEnd::Full => {}
         FillEnd::Ended(0) => return FrameEnd::End,
@@ -86,6 +88,30 @@ pub fn read_frame<S: Source>(alloc: Global, source: &mut S) -> FrameEnd
         FillEnd::Ended(_) => FrameEnd::Torn,
         FillEnd::Fault => FrameEnd::ReadFault,
     }
+}
+
+/// Begins a frame in an empty row: the octets of its length, which [`end_frame`] puts in place.
+///
+/// The content is appended behind them.
+pub fn begin_frame(out: &mut Row<u8>) -> Result<(), NoMemory>
+    requires { out.old ≡ [] }
+    ensures ok { OnOk result (out.new ≡ blank_head) }
+    ensures err { OnErr result (out.new ≡ []) }
+{
+    out.append(&[0; FRAME_HEAD_LEN])
+}
+
+/// Ends a frame that [`begin_frame`] began: its content is what was appended since. It takes no
+/// memory.
+///
+/// [`FRAME_LIMIT`] is a limit on reading alone.
+pub fn end_frame(out: &mut Row<u8>)
+    requires begun { FRAME_HEAD_LEN ≤ length out.old }
+    requires len { length out.old < FRAME_HEAD_LEN + 2 ^ 32 }
+    ensures { out.new ≡ frame (drop FRAME_HEAD_LEN out.old) }
+{
+    let len = (out.len() - FRAME_HEAD_LEN) as u32;
+    out.overwrite(&len.to_be_bytes());
 }
 
 /// The law that the octets decide how a frame ends.

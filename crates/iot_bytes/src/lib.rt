@@ -22,7 +22,8 @@ mod token;
 
 pub use decimal::{decimal_comes_back, decimal_is_digits, put_decimal, read_decimal};
 pub use frame::{
-    FRAME_LIMIT, FrameEnd, frame_end_is_one, frames_are_one, frames_split, read_frame,
+    FRAME_HEAD_LEN, FRAME_LIMIT, FrameEnd, begin_frame, end_frame, frame_end_is_one,
+    frames_are_one, frames_split, read_frame,
 };
 pub use hexadecimal::{hex_comes_back, put_hex, read_hex};
 pub use line::{LINE_LIMIT, LineEnd, line_end_is_one, read_line};
