@@ -1,9 +1,11 @@
 -- What is done to a table's entries leaves a table.
-use Rattle.std.proofs.Common.{◌≡◌, ℕ, ◌+◌, ◌≤◌, ◌<◌, true, false, not, List, [], ◌∷◌, ◌++◌, length, map, arith, refl, ap, subst, sym, ◌∙◌, Option, None, Some}
-use Rattle.std.specs.Prelude.{nat_le, ◌==◌, position, remove}
-use Rattle.std.proofs.lemmas.Bool.{cond_both, true≢false, leb-true, eqb-true}
+use Rattle.std.proofs.Common.{◌≡◌, ℕ, ◌+◌, ◌≤◌, ◌<◌, true, false, not, ◌&&◌, List, [], ◌∷◌, ◌++◌, length, map, arith, refl, ap, subst, sym, ◌∙◌, Option, None, Some}
+use Rattle.std.specs.Prelude.{nat_le, nat_lt, ◌==◌, ◌↔◌, position, remove}
+use Rattle.std.specs.List.{list_all}
+use Rattle.std.proofs.lemmas.Bool.{cond_both, true≢false, and_parts, and_from, leb-true, le-leb, ltb-true, lt-ltb, eqb-true}
 use Rattle.std.proofs.lemmas.List.{length-append, length-map}
-use Rattle.small_card.specs.Lists.{EveryPair, without}
+use Rattle.small_card.specs.Lists.{Every, EveryPair, without}
+use Rattle.small_card.specs.Pairs.{each_pair, are_entries_apart}
 use Rattle.small_card.specs.Cards.{Managers}
 use Rattle.small_card.specs.Managers.{is_eim, has_eim, without_eim, with_fields, updated, counted, with_counter, added, last_association, do_eco}
 use Rattle.small_card.specs.Valid.{IsEntry, AreEntriesApart, AreManagers}
@@ -12,7 +14,8 @@ use Rattle.small_card.specs.declared.types.Eco.TheVariants as eco
 use Rattle.small_card.specs.declared.types.Item.{Item}
 use Rattle.small_card.specs.declared.types.Item.TheVariants as item
 use Rattle.small_card.proofs.ListLemmas.{same_yes, same_no, pair_mono, removed_place, no_place, every_mono, every_both, every_push, every_filter, every_map, pair_push, pair_filter, pair_map, length_filter, none_every}
-use Rattle.eim_table.specs.Entries.{IsGiven, IsEims}
+use Rattle.small_card.proofs.PairTests.{each_take, each_again, pairs_take, pairs_again, entry_pairs}
+use Rattle.eim_table.specs.Entries.{IsGiven, IsEims, IsInRange, is_given, are_eims}
 
 pub valid_eims : (ms : Managers) → AreManagers ms → IsEims ms
 valid_eims ms h = record {
@@ -21,6 +24,51 @@ valid_eims ms h = record {
   apart = h.apart;
   next = h.next;
 }
+
+pub valid_ranges : (ms : Managers) → AreManagers ms → Every IsInRange ms.entries
+valid_ranges ms h = every_mono (IsEntry ms.next) IsInRange (λ e n. record { id = n.id; address = n.address; key = n.key; counter = n.counter }) ms.entries h.each
+
+pub eims_valid : (ms : Managers) → IsEims ms → Every IsInRange ms.entries → AreManagers ms
+eims_valid ms h r = record {
+  few = h.few;
+  each = every_both (IsGiven ms.next) IsInRange (IsEntry ms.next)
+      (λ e g n. record { id = n.id; address = n.address; key = n.key; counter = n.counter; some = g.some; given = g.given }) ms.entries h.each r;
+  apart = h.apart;
+  next = h.next;
+}
+
+given_takes : (next : ℕ) (e : EimEntry) → is_given next e ≡ true → IsGiven next e
+given_takes next e h =
+    let k = and_parts (nat_le 1 e.association) (nat_lt e.association next) h in
+    record { some = leb-true 1 e.association k.0; given = ltb-true e.association next k.1 }
+
+given_again : (next : ℕ) (e : EimEntry) → IsGiven next e → is_given next e ≡ true
+given_again next e h = and_from _ _ (le-leb 1 e.association h.some) (lt-ltb e.association next h.given)
+
+tested_eims : (ms : Managers) → ms.next ≤ 4294967295 → are_eims ms ≡ true → IsEims ms
+unfolding are_eims
+tested_eims ms fits e =
+    let rest = nat_le 1 ms.next && (list_all (is_given ms.next) ms.entries && each_pair are_entries_apart ms.entries) in
+    let a = and_parts (nat_le (length ms.entries) 8) rest e in
+    let b = and_parts (nat_le 1 ms.next) (list_all (is_given ms.next) ms.entries && each_pair are_entries_apart ms.entries) a.1 in
+    let d = and_parts (list_all (is_given ms.next) ms.entries) (each_pair are_entries_apart ms.entries) b.1 in
+    record {
+      few = leb-true (length ms.entries) 8 a.0;
+      each = each_take (is_given ms.next) (IsGiven ms.next) (given_takes ms.next) ms.entries d.0;
+      apart = pairs_take entry_pairs ms.entries d.1;
+      next = record { some = leb-true 1 ms.next b.0; fits = fits };
+    }
+
+eims_tested : (ms : Managers) → IsEims ms → are_eims ms ≡ true
+unfolding are_eims
+eims_tested ms h =
+    and_from _ _ (le-leb (length ms.entries) 8 h.few)
+    (and_from _ _ (le-leb 1 ms.next h.next.some)
+    (and_from _ _ (each_again (is_given ms.next) (IsGiven ms.next) (given_again ms.next) ms.entries h.each) (pairs_again entry_pairs ms.entries h.apart)))
+
+-- the test says exactly whether the entries may stand in a table
+pub tested_exactly : (ms : Managers) → ms.next ≤ 4294967295 → (are_eims ms ≡ true) ↔ IsEims ms
+tested_exactly ms fits = (tested_eims ms fits, eims_tested ms)
 
 given_later : (n : ℕ) (e : EimEntry) → IsGiven n e → IsGiven (n + 1) e
 given_later n e h = record { some = h.some; given = omega (arith, h.given) }

@@ -1,7 +1,9 @@
 //! What the table does to the list of its entries.
 
 ghost use Rattle.std.specs.Prelude.{◌≡◌, ◌<◌, ◌≤◌, ◌+◌, ◌++◌, ◌∷◌, [], length, map, find, position, if◌then◌else◌, IfOk};
+ghost use Rattle.std.specs.List.{list_all};
 ghost use Rattle.std.specs.Option.{option_copied};
+ghost use Rattle.eim_table.specs.Entries.{is_given, are_eims};
 ghost use Rattle.small_card.specs.Lists.{EveryPair};
 ghost use Rattle.small_card.specs.Managers.{is_eim, has_eim, without_eim, line_of, with_fields, updated, counted, with_counter, is_empty_list};
 ghost use Rattle.small_card.specs.Valid.{AreEntriesApart};
@@ -10,7 +12,7 @@ use iot_bytes::{NoMemory, Reserve, Row};
 use sgp_values::{Address, EimId, Key};
 use small_card::codes::{DONE, LAST_DELETED};
 use small_card::limits::MOST_EIMS;
-use small_card::{EimEntry, EimLine};
+use small_card::{EimEntry, EimLine, are_all_apart};
 use std::alloc::Global;
 
 #[tactic(auto, unfolding(small_card::specs::Managers::has_eim))]
@@ -18,6 +20,25 @@ pub(crate) fn has_eim(entries: &[EimEntry], id: &EimId) -> bool
     ensures { result ≡ has_eim id.now entries.now }
 {
     entries.iter().any(|e| *id == e.id)
+}
+
+fn is_given(entry: &EimEntry, next: u32) -> bool
+    ensures { result ≡ is_given next entry.now }
+{
+    1 <= entry.association && entry.association < next
+}
+
+fn are_given(entries: &[EimEntry], next: u32) -> bool
+    ensures { result ≡ list_all (is_given next) entries.now }
+{
+    entries.iter().all(|entry| is_given(entry, next))
+}
+
+#[tactic(auto, unfolding(crate::specs::Entries::are_eims))]
+pub(crate) fn are_eims(entries: &[EimEntry], next: u32) -> bool
+    ensures { result ≡ are_eims (record { entries = entries.now; next = next }) }
+{
+    entries.len() <= MOST_EIMS && 1 <= next && are_given(entries, next) && are_all_apart(entries)
 }
 
 fn place_of(entries: &[EimEntry], id: &EimId) -> Option<usize>

@@ -1,4 +1,4 @@
-ghost use Rattle.std.specs.Prelude.{◌≡◌, ◌≢◌, ◌≤◌, [], ℕ, find, map, IfOk};
+ghost use Rattle.std.specs.Prelude.{◌≡◌, ◌≢◌, ◌↔◌, ◌≤◌, [], ℕ, true, find, map, IfOk};
 ghost use Rattle.small_card.specs.Managers.{is_eim, line_of, with_counter, do_eco};
 ghost use Rattle.small_card.specs.declared.types.Eco.TheVariants as eco;
 ghost use Rattle.small_card.specs.declared.types.Item.TheVariants as item;
@@ -6,8 +6,8 @@ ghost use Rattle.eim_table.specs.Adding.{item_of};
 ghost use Rattle.eim_table.specs.Entries.{IsEims, MayCount};
 
 use crate::entries::{
-    copy_entries, deletion_code, entry_of, has_eim, lines_of, put_last, set_counter, set_fields,
-    take_out,
+    are_eims, copy_entries, deletion_code, entry_of, has_eim, lines_of, put_last, set_counter,
+    set_fields, take_out,
 };
 use iot_bytes::{NoMemory, Reserve, Row};
 use sgp_values::{Address, EimId, Key};
@@ -60,6 +60,16 @@ impl Eims {
             entries: Reserve::with_room(alloc, MOST_EIMS)?,
             next,
         })
+    }
+
+    /// Whether these entries and the next association may stand in a table, as [`Eims::of`] wants it:
+    /// at most 8 entries, no two with one identifier or one association, each association from 1 to
+    /// below the next one, which is from 1. It takes no memory.
+    #[tactic(auto, using(crate::proofs::Keeping::tested_exactly))]
+    pub fn fits(entries: &[EimEntry], next: u32) -> bool
+        ensures exact { (result ≡ true) ↔ IsEims (record { entries = entries.now; next = next }) }
+    {
+        are_eims(entries, next)
     }
 
     /// The table of these entries, none or at most 8, whose next eIM gets the association `next`.
@@ -163,6 +173,13 @@ impl Eims {
         ensures table { IsEims self.now }
     {
         self.entries.as_slice()
+    }
+
+    /// Tells a caller's proof that the entries may stand in a table. It does nothing.
+    pub fn in_range(&self)
+        ensures table { IsEims self.now }
+    {
+        let _ = &self.entries;
     }
 
     /// The association that the next eIM gets. It takes no memory.

@@ -106,7 +106,7 @@ passed_store rs room h = record {
 }
 
 call_store : (rs : Results) (c : Call) → IsStore rs → MayCall rs c → IsStore (after_call rs c)
-unfolding after_call MayCall
+unfolding MayCall
 call_store rs (put eim association counter items) h m =
     let r = room_parts rs m in
     put_store (record { seq = rs.next; eim = eim; association = association; counter = counter; items = items; rolled = false }) rs refl r.few (omega (arith, r.next)) h

@@ -20,7 +20,7 @@ one_more n end ns rising new below next = (
 )
 
 pub numbers_go_up : (rs : Results) (cs : List Call) → NumbersRise rs cs
-unfolding after_calls given_out after_call gives_out with_result without_result marked passed
+unfolding after_calls given_out gives_out with_result without_result marked passed
 numbers_go_up rs [] = record { rising = tt; new = tt; below = tt; next = omega arith }
 numbers_go_up rs (put eim association counter items ∷ cs) =
     let rs1 = after_call rs (put eim association counter items) in

@@ -77,7 +77,7 @@ stands_none rs (c ∷ cs) = refl
 -- what stays
 
 contains_touched : (rs : Results) (c : Call) (r q : PackageResult) → Contains rs.pending r → touched rs.next r c ≡ Some q → Contains (after_call rs c).pending q
-unfolding touched after_call with_result without_result marked passed
+unfolding touched with_result without_result marked passed
 contains_touched rs (put eim association counter items) r q h e =
     let more : List PackageResult = numbered rs.next eim association counter items ∷ [] in
     subst (λ z. Contains (rs.pending ++ more) z) (some_is r q e) (Contains-append_left rs.pending more r h)
@@ -142,7 +142,7 @@ gets_mark n r z l e = subst (λ (w : PackageResult). SameStep (n + 1) r w) e
     (record { same = record { eim = refl; association = refl; counter = refl; items = refl; mark = inr (refl, l) }; given = omega arith })
 
 same_step : (rs : Results) (c : Call) (r z : PackageResult) → r.seq < rs.next → touched rs.next r c ≡ Some z → SameStep (after_call rs c).next r z
-unfolding touched after_call with_result without_result marked passed
+unfolding touched with_result without_result marked passed
 same_step rs (put eim association counter items) r z l e = stays_given rs.next (rs.next + 1) r z l (omega arith) (some_is r z e)
 same_step rs (remove seq) r z l e =
     elim (has_seq seq r) as (λ b. cond {A = Option PackageResult} b None (Some r) ≡ Some z → SameStep rs.next r z) [
@@ -228,7 +228,7 @@ pub record IsNew (rs : Results) (c : Call) (z : PackageResult) : Type 0 where
   pub result : numbered rs.next eim association counter items ≡ z
 
 comes_by : (rs : Results) (c : Call) (z : PackageResult) → Contains (after_call rs c).pending z → WasTouched rs c z ⊎ IsNew rs c z
-unfolding touched after_call with_result without_result marked passed
+unfolding touched with_result without_result marked passed
 comes_by rs (put eim association counter items) z h = elim (Contains-push_cases rs.pending (numbered rs.next eim association counter items) z h) [
   | inl k ↦ inl (record { first = z; pending = k; by = refl })
   | inr e ↦ inr (record { eim = eim; association = association; counter = counter; items = items; call = refl; result = e })

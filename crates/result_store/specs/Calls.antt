@@ -16,7 +16,7 @@ pub data Call : Type 0 where
   pass_number : Call
 
 -- What a call makes of the store.
-unfoldable pub after_call : Results → Call → Results
+abbrev pub after_call : Results → Call → Results
 after_call rs (put eim association counter items) = with_result (numbered rs.next eim association counter items) rs
 after_call rs (remove seq) = without_result seq rs
 after_call rs (mark_rolled seq) = marked seq rs

@@ -1,6 +1,8 @@
 ghost use Rattle.std.specs.Prelude.{◌≡◌, ◌<◌, List, Option, Some, None, Contains};
 ghost use Rattle.small_card.specs.Cards.{Results};
 ghost use Rattle.small_card.specs.Lists.{Every};
+ghost use Rattle.small_card.specs.Ranges.{IsResult};
+ghost use Rattle.small_card.specs.Valid.{AreResults};
 ghost use Rattle.small_card.specs.declared.types.PackageResult.{PackageResult};
 ghost use Rattle.result_store.specs.Calls.{Call, May, after_calls, stands, IsUntouched};
 ghost use Rattle.result_store.specs.Laws.{IsSameResult, WasRemoved, ComesFrom, NumbersRise};
@@ -24,6 +26,13 @@ pub fn kept_until_removed()
 /// Numbers that are given out only rise, and each is new.
 pub fn numbers_rise()
     ensures { (rs : Results) (cs : List Call) → NumbersRise rs cs }
+{}
+
+/// The results of a valid card are those that stand in a store and are in their ranges.
+pub fn results_stand()
+    ensures stand { (rs : Results) → AreResults rs → IsStore rs }
+    ensures ranges { (rs : Results) → AreResults rs → Every IsResult rs.pending }
+    ensures valid { (rs : Results) → IsStore rs → Every IsResult rs.pending → AreResults rs }
 {}
 
 /// Any calls whose conditions hold leave at most 8 results in rising numbers that were given out.

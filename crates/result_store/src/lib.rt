@@ -9,7 +9,7 @@ mod laws;
 mod places;
 mod store;
 
-pub use laws::{kept_until_removed, numbers_rise, stays_a_store};
+pub use laws::{kept_until_removed, numbers_rise, results_stand, stays_a_store};
 pub use store::{RemoveEnd, Store};
 
 #[cfg(test)]

@@ -1,11 +1,12 @@
-ghost use Rattle.std.specs.Prelude.{◌≡◌, ◌↔◌, ◌≤◌, ◌+◌, [], true, false, find, None, IfOk, IsSome};
+ghost use Rattle.std.specs.Prelude.{◌≡◌, ◌↔◌, ◌≤◌, [], true, false, find, None, IfOk, IsSome};
 ghost use Rattle.std.specs.Option.{option_copied};
 ghost use Rattle.small_card.specs.Checks.{has_room};
-ghost use Rattle.small_card.specs.Packages.{with_result};
-ghost use Rattle.small_card.specs.Units.{has_seq, is_pending, without_result, marked};
-ghost use Rattle.result_store.specs.Stores.{IsStore, numbered, passed};
+ghost use Rattle.small_card.specs.Units.{has_seq, is_pending};
+ghost use Rattle.result_store.specs.Calls as call;
+ghost use Rattle.result_store.specs.Calls.{after_call};
+ghost use Rattle.result_store.specs.Stores.{IsStore};
 
-use crate::places::{copy_results, find_result, mark_last, put_last, take_out};
+use crate::places::{copy_results, find_result, is_store, mark_last, put_last, take_out};
 use iot_bytes::{NoMemory, Reserve, Row};
 use sgp_values::EimId;
 use small_card::limits::MOST_PENDING;
@@ -69,6 +70,16 @@ impl Store {
         })
     }
 
+    /// Whether these results and the next number may stand in a store, as [`Store::of`] wants it: at
+    /// most 8 results in rising numbers, each from 1 to below the next one, which is from 1. It takes
+    /// no memory.
+    #[tactic(auto, using(crate::proofs::Testing::tested_exactly))]
+    pub fn fits(pending: &[PackageResult], next: u32) -> bool
+        ensures exact { (result ≡ true) ↔ IsStore (record { pending = pending.now; next = next }) }
+    {
+        is_store(pending, next)
+    }
+
     /// The store of these results, none or at most 8, whose next result gets the number `next`.
     ///
     /// It takes the memory for 8 results from the row's own allocator. Where memory runs out the
@@ -101,6 +112,13 @@ impl Store {
         self.pending.as_slice()
     }
 
+    /// Tells a caller's proof that the results may stand in a store. It does nothing.
+    pub fn in_range(&self)
+        ensures store { IsStore self.now }
+    {
+        let _ = &self.pending;
+    }
+
     /// The number that is given out next. It takes no memory.
     pub fn next(&self) -> u32
         ensures next { result ≡ self.now.next }
@@ -123,7 +141,7 @@ impl Store {
     pub fn put(&mut self, eim: EimId, association: u32, counter: u64, items: Row<Item>) -> u32
         requires { has_room self.old ≡ true }
         ensures number { result ≡ self.old.next }
-        ensures kept { self.new ≡ with_result (numbered self.old.next eim association counter items) self.old }
+        ensures kept { self.new ≡ after_call self.old (call.put eim association counter items) }
     {
         let seq = self.next;
         let kept = PackageResult {
@@ -142,7 +160,7 @@ impl Store {
     /// Drops the result with this number, as its manager has recorded it. It takes no memory.
     #[tactic(auto, unfolding(small_card::specs::Units::without_result))]
     pub fn remove(&mut self, seq: u32) -> RemoveEnd
-        ensures rest { self.new ≡ without_result seq self.old }
+        ensures rest { self.new ≡ after_call self.old (call.remove seq) }
         ensures absent { (result ≡ RemoveEnd.Absent) ↔ (is_pending seq self.old.pending ≡ false) }
         ensures unchanged { result ≡ RemoveEnd.Absent → self.new ≡ self.old }
     {
@@ -156,7 +174,7 @@ impl Store {
         requires pending { is_pending seq self.old.pending ≡ true }
         requires number { self.old.next ≤ 4294967294 }
         ensures number { result ≡ self.old.next }
-        ensures marked { self.new ≡ marked seq self.old }
+        ensures marked { self.new ≡ after_call self.old (call.mark_rolled seq) }
     {
         let number = self.next;
         mark_last(&mut self.pending, seq, number);
@@ -169,7 +187,7 @@ impl Store {
     pub fn pass_number(&mut self) -> u32
         requires { self.old.next ≤ 4294967294 }
         ensures number { result ≡ self.old.next }
-        ensures passed { self.new ≡ passed self.old }
+        ensures passed { self.new ≡ after_call self.old call.pass_number }
     {
         let given = self.next;
         self.next = given + 1;

@@ -37,8 +37,9 @@ impl Item {
     }
 }
 
-fn copy_items(alloc: Global, items: &[Item]) -> Result<Row<Item>, NoMemory>
-    ensures { IfOk result (λ row. row ≡ items.now) }
+/// The same items, with lists of their own.
+pub fn copy_items(alloc: Global, items: &[Item]) -> Result<Row<Item>, NoMemory>
+    ensures equal { IfOk result (λ row. row ≡ items.now) }
 {
     let mut out = Reserve::with_room(alloc, items.len())?.into_row();
     for item in items {

@@ -11,6 +11,7 @@ mod pairs;
 mod types;
 mod worked;
 
+pub use copies::copy_items;
 pub use laws::{
     counters_look_back, first_units_legal, fresh_is_valid, never_returns, one_more_unit,
     pairs_are_tested, pending_results_change, rollback_restores, stays_valid, takes_once,
