@@ -1,3 +1,4 @@
+pub mod Apart
 pub mod Runs
 mod Kept
 mod Steps

@@ -3,7 +3,8 @@ use Rattle.std.proofs.Common.{◌≡◌, ◌⊎◌, inl, inr, ⊎_elim, ℕ, ◌
 use Rattle.std.specs.Prelude.{Option, Some, None, Result, Ok, Err, is_ok, IsErr, if◌then◌else◌, ◌==◌}
 use Rattle.std.proofs.lemmas.Bool.Decides.{nat_tests}
 use Rattle.chip_port.specs.declared.chip.Tear.{Tear}
-use Rattle.chip_port.specs.Seen.{Seen, Tally, Marks, is_due, one_less, called, Passes, Rose, up}
+use Rattle.iot_bytes.specs.Causes.{Rose}
+use Rattle.chip_port.specs.Seen.{Seen, Tally, Marks, is_due, one_less, called, Passes, up}
 use Rattle.chip_port.specs.Rules.{Called, HasCause, IfTold, ReadOut, Written, Synced, Torn, Untouched, Answered, answered}
 use Rattle.chip_port.specs.Runs.{Less, LetsPass, IsDoomed, Smooth, Broke, Went, Ran, Ended, Closed}
 
@@ -138,7 +139,7 @@ went_smooth m n a b c ab bc = smooth_then m n a b c ab bc
 -- before the first call
 pub ran_none : (P : List ℕ → Type 0) (s : Seen) → s.told ≡ true → ((c : List ℕ) → s.leaves c → P c) → Ran 0 true P s s
 unfolding Went
-ran_none P s told here = record { told = told; marks = refl; keeps = λ k c was. was; adds = λ k c was. inl was; here = here; went = smooth_none s.tally }
+ran_none P s told here = record { told = told; marks = refl; keeps = λ k c was. was; adds = λ k c was. inl was; here = here; calm = λ _. refl; went = smooth_none s.tally }
 
 -- one call more, after which a cut leaves only what has P
 pub ran_call : {T E : Type 0} {n : ℕ} {P : List ℕ → Type 0} {a b c : Seen} {result : Result T E} → Ran n true P a b → HasCause b c result → Called b c result → c.marks ≡ b.marks
@@ -149,6 +150,7 @@ ran_call {T} {E} {n} {P} {a} {b} {c} {result} ab cause call marks here = record 
   keeps = λ k i was. call.time.keeps k i (ab.keeps k i was);
   adds = λ k i left. ⊎_elim (ab.adds k i) (λ now. inr (now.0 ∙ ap (λ (m : Marks). m.answers) (marks ∙ ab.marks), here i now.1)) (call.time.nothing_else k i left);
   here = here;
+  calm = λ ok. calm_call result call.calm ok ∙ ab.calm refl;
   went = went_then n 1 (is_ok result) a.tally b.tally c.tally ab.went
       (subst (λ (t : Tally). Went 1 (is_ok result) b.tally t) (sym call.tally) (went_one (is_ok result) b.tally (passes result call.passes)));
 }
@@ -156,6 +158,10 @@ ran_call {T} {E} {n} {P} {a} {b} {c} {result} ab cause call marks here = record 
     passes : {T E : Type 0} (r : Result T E) → OnOk r (Passes b.tally) → is_ok r ≡ true → Passes b.tally
     passes (Ok x) p e = p
     passes (Err x) p e = absurd (cc e)
+
+    calm_call : {T E : Type 0} (r : Result T E) → OnOk r (c.faults ≡ b.faults) → is_ok r ≡ true → c.faults ≡ b.faults
+    calm_call (Ok x) p e = p
+    calm_call (Err x) p e = absurd (cc e)
 
 pub ran_read : {T E : Type 0} {n : ℕ} {P : List ℕ → Type 0} {a b c : Seen} {result : Result T E} {at : ℕ} {before after : List ℕ} → Ran n true P a b → HasCause b c result
     → IfTold b (ReadOut at before after b c result) → Ran (n + 1) (is_ok result) P a c
@@ -177,6 +183,7 @@ ran_then {m} {n} {ok} {P} {Q} {a} {b} {c} ab bc weaker = record {
   keeps = λ k i was. bc.keeps k i (ab.keeps k i was);
   adds = λ k i left. ⊎_elim (ab.adds k i) (λ now. inr (now.0 ∙ ap (λ (t : Marks). t.answers) ab.marks, weaker i now.1)) (bc.adds k i left);
   here = λ i now. weaker i (bc.here i now);
+  calm = λ done. bc.calm done ∙ ab.calm refl;
   went = went_then m n ok a.tally b.tally c.tally ab.went bc.went;
 }
 
@@ -218,6 +225,7 @@ ran_most {m} {n} {ok} {P} {a} {b} le run = record {
   keeps = run.keeps;
   adds = run.adds;
   here = run.here;
+  calm = run.calm;
   went = went_most m n ok a.tally b.tally le run.went;
 }
 
@@ -229,6 +237,7 @@ ran_untouched {n} {P} {a} {b} {c} ab u = record {
   keeps = λ k i was. (u.left k i).0 (ab.keeps k i was);
   adds = λ k i left. ab.adds k i ((u.left k i).1 left);
   here = λ i now. ab.here i ((u.keeps.leaves i).1 now);
+  calm = λ done. u.faults ∙ ab.calm done;
   went = subst (λ (t : Tally). Went n true a.tally t) (sym u.tally_is) ab.went;
 }
 
@@ -241,6 +250,23 @@ ran_since {n} {ok} {P} {a} {b} ab law k i left = ⊎_elim inl (λ now. ⊎_elim 
 pub ran_unanswered : {T E : Type 0} {n : ℕ} {P : List ℕ → Type 0} {a b c : Seen} {e : E} → Ran n true P a b → HasCause {T = T} b c (Err e)
     → IfTold b (Answered {T = T} b c (Err e)) → Ran (n + 1) false P a c
 ran_unanswered ab cause told = let r = told ab.told in ran_call ab cause r.call r.marks (λ i now. ab.here i ((r.leaves i).1 now))
+
+-- before calls that all passed the chip wasn't cut, and the next call wasn't the cut
+passes_back : (n : ℕ) (a b : Tally) → Went n true a b → Passes b → Passes a
+unfolding Went
+passes_back n a b w p = record { powered = sym w.cut ∙ p.powered; not_due = not_due_on n a.plan b.plan w.plan p.not_due }
+  where
+    not_due_on : (n : ℕ) (p q : Option (ℕ × Tear)) → Less n p q → is_due q ≡ false → is_due p ≡ false
+    not_due_on n None q pq h = refl
+    not_due_on n (Some plan) q pq h =
+        let off = subst (λ (o : Option (ℕ × Tear)). is_due o ≡ false) pq.1 h in
+        grind (arith, nat_tests)
+
+-- what could be left at the start was left then, over a run that ends with an answer
+pub ended_since : {n : ℕ} {P Q : List ℕ → Type 0} {a b : Seen} → Ended n (λ i. a.leaves i ⊎ P i) Q a b → ((i : List ℕ) → a.leaves i → a.left a.marks.answers i)
+    → (k : ℕ) (i : List ℕ) → b.left k i → a.left k i ⊎ (((k ≡ a.marks.answers) × P i) ⊎ ((k ≡ a.marks.answers + 1) × Q i))
+ended_since {n} {P} {Q} {a} {b} ab law k i left =
+    ⊎_elim inl (λ now. ⊎_elim (λ before. ⊎_elim (λ was. inl (subst (λ (m : ℕ). a.left m i) (sym before.0) (law i was))) (λ p. inr (inl (before.0, p))) before.1) (λ after. inr (inr after)) now) (ab.adds k i left)
 
 -- an answer that succeeds ends the run
 pub ran_answered : {T E : Type 0} {n : ℕ} {P Q : List ℕ → Type 0} {a b c : Seen} {x : T} → Ran n true P a b → HasCause {E = E} b c (Ok x)
@@ -255,6 +281,9 @@ ran_answered {T} {E} {n} {P} {Q} {a} {b} {c} {x} ab cause told settled =
       keeps = λ k i was. r.call.time.keeps k i (ab.keeps k i was);
       adds = λ k i left. ⊎_elim (λ had. ⊎_elim inl (λ now. inr (inl now)) (ab.adds k i had)) (λ now. inr (inr (now.0 ∙ answers, settled i ((r.leaves i).1 now.1)))) (r.call.time.nothing_else k i left);
       here = λ i now. settled i ((r.leaves i).1 now);
+      passes = passes_back n a.tally b.tally ab.went r.call.passes;
+      powered = one.cut ∙ r.call.passes.powered;
+      calm = r.call.calm ∙ ab.calm refl;
       went = went_smooth n 1 a.tally b.tally c.tally ab.went one;
     }
   where

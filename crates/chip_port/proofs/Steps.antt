@@ -1,14 +1,15 @@
 -- What the calls of a chip in memory do to what it shows.
-use Rattle.std.proofs.Common.{◌≡◌, inl, ℕ, Bool, true, false, List, [], ◌∷◌, refl, sym, subst}
+use Rattle.std.proofs.Common.{◌≡◌, inl, ℕ, Bool, true, false, List, [], ◌∷◌, refl, sym, subst, arith}
 use Rattle.std.specs.Prelude.{Some, None, Ok, leb, if◌then◌else◌}
 use Rattle.iot_bytes.specs.declared.source.Failed.{Failed}
 use Rattle.chip_port.specs.declared.counts.Counts.{Counts}
 use Rattle.chip_port.specs.declared.medium.Rises.{Rises}
 use Rattle.chip_port.specs.declared.medium.Rises.TheVariants.{Content}
 use Rattle.chip_port.specs.Seen.{called, Passes, Marks}
-use Rattle.chip_port.specs.Rules.{Synced, Woken, woken}
+use Rattle.chip_port.specs.declared.chip.Tear.{Tear}
+use Rattle.chip_port.specs.Rules.{Torn, Synced, Woken, woken}
 use Rattle.chip_port.specs.Past.{Past, wrote, did_sync, did_answer, was_cut, woke_as, images, risen, fits, marks_of}
-use Rattle.chip_port.specs.PastLaws.{risen_left}
+use Rattle.chip_port.specs.PastLaws.{risen_left, fits_wrote, sized, torn_put}
 use Rattle.chip_port.specs.Counts.{tally_of}
 use Rattle.chip_port.specs.MemSeen.{seen_in, is_woken}
 
@@ -22,6 +23,19 @@ synced_in past later a b ca oa cb ob f is tally passes calm = subst (λ (p : Lis
   done = λ c now. now;
   failed = tt;
 })
+
+-- a write leaves what is outside of its range
+pub torn_wrote : (past later : List Past) (at n : ℕ) (octets : List ℕ) → fits 346624 past ≡ true → fits 346624 later ≡ true → later ≡ wrote at n octets ∷ past → Torn at n (images 346624 past).content (images 346624 later).content
+torn_wrote past later at n octets f g is =
+    let w = fits_wrote 346624 at n octets past (subst (λ (p : List Past). fits 346624 p ≡ true) is g) in
+    let s = sized 346624 past f in
+    subst (λ (p : List Past). Torn at n (images 346624 past).content (images 346624 p).content) (sym is) (torn_put (images 346624 past).content at n octets (omega (arith, w.inside, s.content)) w.short)
+
+-- and so does a cut write
+pub torn_cut : (past cut later : List Past) (at n : ℕ) (octets : List ℕ) (tear : Tear) → fits 346624 past ≡ true → fits 346624 cut ≡ true → cut ≡ wrote at n octets ∷ past → later ≡ was_cut tear ∷ cut
+    → Torn at n (images 346624 past).content (images 346624 later).content
+torn_cut past cut later at n octets tear f g is after =
+    subst (λ (p : List Past). Torn at n (images 346624 past).content (images 346624 p).content) (sym after) (torn_wrote past cut at n octets f g is)
 
 pub woken_in : (past later : List Past) (rises : Rises) (a : Counts) (calls octets : ℕ) → fits 346624 past ≡ true → later ≡ woke_as rises ∷ past
     → Woken {T = Unit {0}} {E = Failed} (seen_in past a calls octets) (seen_in later (record a { cut = None }) calls octets) (Ok tt)

@@ -1,11 +1,12 @@
 -- A medium as its calls see it.
 use Rattle.std.specs.Prelude.{◌≡◌, ◌⊎◌, ℕ, ◌+◌, ◌-◌, ◌≤◌, Bool, ◌&&◌, leb, List, [], ◌∷◌, length, take, drop, get_or, true}
+use Rattle.chip_port.specs.declared.chip.TheConstants.{CHIP_SIZE}
 use Rattle.chip_port.specs.declared.medium.Record.{Record}
 use Rattle.chip_port.specs.declared.medium.Record.TheVariants.{Write, Sync, Answer, Cut, Wake}
 use Rattle.chip_port.specs.Past.{Past, wrote, did_sync, did_answer, was_cut, woke_as, images, fits}
 
 -- the history, and how many records and octets need no more memory
-pub record Taped : Type 0 where
+pub record MediumSeen : Type 0 where
   pub past : List Past
   pub calls : ℕ
   pub octets : ℕ
@@ -21,11 +22,11 @@ past_of (Wake rises ∷ older) octets = woke_as rises ∷ past_of older octets
 
 -- these are the images after all that
 pub record IsKept (past : List Past) (content synced junk : List ℕ) : Type 0 where
-  pub images_are : images 346624 past ≡ record { content = content; synced = synced; junk = junk }
-  pub inside : fits 346624 past ≡ true
-  pub content_size : length content ≡ 346624
-  pub synced_size : length synced ≡ 346624
-  pub junk_size : length junk ≡ 346624
+  pub images_are : images CHIP_SIZE past ≡ record { content = content; synced = synced; junk = junk }
+  pub inside : fits CHIP_SIZE past ≡ true
+  pub content_size : length content ≡ CHIP_SIZE
+  pub synced_size : length synced ≡ CHIP_SIZE
+  pub junk_size : length junk ≡ CHIP_SIZE
 
 -- each range that was written is inside
 abbrev pub all_fit : ℕ → List Record → Bool

@@ -1,5 +1,6 @@
 -- What a chip in memory shows.
 use Rattle.std.specs.Prelude.{◌≡◌, ℕ, Bool, true, false, if◌then◌else◌, List, [], ◌∷◌, Option, Some, None}
+use Rattle.chip_port.specs.declared.chip.TheConstants.{CHIP_SIZE}
 use Rattle.chip_port.specs.declared.counts.Counts.{Counts}
 use Rattle.chip_port.specs.Seen.{Seen}
 use Rattle.chip_port.specs.Rules.{Sound}
@@ -17,10 +18,10 @@ seen_in past counts calls octets = record {
   told = true;
   faults = counts.faults;
   spare = record { calls = calls; octets = octets };
-  reads = (images 346624 past).content;
-  leaves = may_leave 346624 past;
-  left = has_left 346624 past;
-  marks = marks_of 346624 past;
+  reads = (images CHIP_SIZE past).content;
+  leaves = may_leave CHIP_SIZE past;
+  left = has_left CHIP_SIZE past;
+  marks = marks_of CHIP_SIZE past;
   tally = tally_of counts;
 }
 
@@ -33,12 +34,12 @@ is_woken (did_answer cuts breaks ∷ older) = false
 is_woken (was_cut tear ∷ older) = false
 is_woken (woke_as rises ∷ older) = true
 
-pub sound_in : (past : List Past) (counts : Counts) (calls octets : ℕ) → fits 346624 past ≡ true → Sound 346624 (seen_in past counts calls octets)
+pub sound_in : (past : List Past) (counts : Counts) (calls octets : ℕ) → fits CHIP_SIZE past ≡ true → Sound CHIP_SIZE (seen_in past counts calls octets)
 sound_in past counts calls octets f = record {
-  reads_now = risen_left 346624 Content past f;
-  sized = left_sized 346624 past f;
-  counts_now = left_now 346624 past;
-  none_above = none_above 346624 past;
+  reads_now = risen_left CHIP_SIZE Content past f;
+  sized = left_sized CHIP_SIZE past f;
+  counts_now = left_now CHIP_SIZE past;
+  none_above = none_above CHIP_SIZE past;
 }
 
 -- what a power cycle gives after this tear
@@ -51,7 +52,7 @@ rises_by (Some Junk) = JunkImage
 
 -- the image that a power cycle gives: after a cut with the tear Old what was synced last, with Junk A5 in each range not synced, and else all that was written
 abbrev pub given : List Past → Option Tear → List ℕ
-given past tear = risen (rises_by tear) (images 346624 past)
+given past tear = risen (rises_by tear) (images CHIP_SIZE past)
 
 -- the history after a power cycle; of two with nothing between them the second adds nothing
 abbrev pub woken_past : List Past → Option Tear → List Past
@@ -60,9 +61,9 @@ woken_past past tear = if is_woken past then past else woke_as (rises_by tear) �
 -- all octets 0, synced, and nothing counted
 pub record StartsBlank (s : Seen) : Type 0 where
   pub told : s.told ≡ true
-  pub reads : s.reads ≡ zeros 346624
-  pub leaves : (c : List ℕ) → s.leaves c → c ≡ zeros 346624
-  pub left : (n : ℕ) (c : List ℕ) → s.left n c → (n ≡ 0) × (c ≡ zeros 346624)
+  pub reads : s.reads ≡ zeros CHIP_SIZE
+  pub leaves : (c : List ℕ) → s.leaves c → c ≡ zeros CHIP_SIZE
+  pub left : (n : ℕ) (c : List ℕ) → s.left n c → (n ≡ 0) × (c ≡ zeros CHIP_SIZE)
   pub marks : s.marks ≡ record { answers = 0; cuts_at = λ n. 0; breaks_at = λ n. 0; woke = λ n. None }
   pub tally : s.tally ≡ record { uses = 0; cuts = 0; breaks = 0; plans = 0; plan = None; cut = false }
   pub faults : s.faults ≡ 0

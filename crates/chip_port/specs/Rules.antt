@@ -1,6 +1,7 @@
 -- The rules of a chip: what each call does to what the chip shows.
 use Rattle.std.specs.Prelude.{◌≡◌, ◌⊎◌, ℕ, ◌+◌, ◌≤◌, true, false, if◌then◌else◌, ◌==◌, List, ◌++◌, length, take, drop, Result, is_ok, OnOk, OnErr, Some, leb}
-use Rattle.chip_port.specs.Seen.{Seen, Tally, Marks, called, Passes, Rose, up}
+use Rattle.iot_bytes.specs.Causes.{Rose}
+use Rattle.chip_port.specs.Seen.{Seen, Tally, Marks, called, Passes, up}
 
 -- the content with these octets at this place
 abbrev pub put : List ℕ → ℕ → List ℕ → List ℕ
@@ -64,11 +65,12 @@ pub record ReadOut {T E : Type 0} (at : ℕ) (before after : List ℕ) (old new 
   pub keeps : Keeps old new
   pub done : OnOk result (after ≡ take (length before) (drop at old.reads))
 
--- a write puts its octets in place; whether it succeeds or not, its range may be any octets after a cut, and what is outside stays
+-- a write puts its octets in place; whether it succeeds or not, its range may be any octets after a cut, and what is outside stays, in the content too
 pub record Written {T E : Type 0} (at : ℕ) (octets : List ℕ) (old new : Seen) (result : Result T E) : Type 0 where
   pub call : Called old new result
   pub marks : new.marks ≡ old.marks
   pub leaves : Follows (Torn at (length octets)) old.leaves new.leaves
+  pub outside : Torn at (length octets) old.reads new.reads
   pub done : OnOk result (new.reads ≡ put old.reads at octets)
 
 -- a sync never changes the content; one that succeeds leaves nothing else, one that fails syncs nothing

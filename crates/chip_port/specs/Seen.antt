@@ -1,5 +1,5 @@
 -- What a chip shows of itself: its octets, what a cut may leave, and its counts.
-use Rattle.std.specs.Prelude.{◌≡◌, ℕ, ◌+◌, ◌-◌, ◌^◌, ◌≤◌, min, max, Bool, true, false, if◌then◌else◌, ◌==◌, List}
+use Rattle.std.specs.Prelude.{◌≡◌, ℕ, ◌+◌, ◌-◌, ◌^◌, min, max, Bool, true, false, if◌then◌else◌, ◌==◌, List}
 use Rattle.std.specs.Prelude.{Option, Some, None}
 use Rattle.chip_port.specs.declared.chip.Tear.{Tear}
 
@@ -38,10 +38,6 @@ pub record Seen : Type 1 where
 -- one more; a count stands still at the end of its type
 abbrev pub up : ℕ → ℕ
 up count = max count (min (count + 1) (2 ^ 64 - 1))
-
--- a count that rose, or stood at its end
-abbrev pub Rose : ℕ → ℕ → Type 0
-Rose before now = min (before + 1) (2 ^ 64 - 1) ≤ now
 
 -- the next call is the cut
 abbrev pub is_due : Option (ℕ × Tear) → Bool

@@ -2,7 +2,9 @@
 
 ghost use Rattle.std.specs.Prelude.{◌≡◌, ◌+◌, ◌≤◌, List, ℕ, length, OnOk, OnErr};
 ghost use Rattle.chip_port.specs.Seen.{Seen, plan_of, no_plan};
-ghost use Rattle.chip_port.specs.Rules.{HasCause, Takes, Called, IfTold, ReadOut, Written, Synced, Answered, Untouched, Prepared, Quiet, Woken, Sound};
+ghost use Rattle.chip_port.specs.declared.chip.TheConstants.{CHIP_SIZE};
+ghost use Rattle.chip_port.specs.Rules.{HasCause, Takes, Called, IfTold, ReadOut, Written, Synced};
+ghost use Rattle.chip_port.specs.Rules.{Answered, Untouched, Prepared, Quiet, Woken, Sound};
 
 use iot_bytes::{Failed, NoMemory};
 
@@ -35,14 +37,16 @@ pub trait Chip {
     /// writes. Nothing else changes.
     fn prepare(&mut self, calls: u64, bytes: u64) -> Result<(), NoMemory>
         ensures room { Prepared calls bytes (sees self.old) (sees self.new) result }
-        ensures told { IfTold (sees self.old) (Untouched (λ t. t) (sees self.old) (sees self.new)) };
+        ensures told { IfTold (sees self.old)
+            (Untouched (λ t. t) (sees self.old) (sees self.new)) };
 
     /// Fills `out` with the octets from `at` on. After a failure its octets aren't known.
     fn read(&mut self, at: u64, out: &mut [u8]) -> Result<(), Failed>
         requires { at + length out.old ≤ CHIP_SIZE }
         ensures cause { HasCause (sees self.old) (sees self.new) result }
         ensures spare { Takes 0 0 (sees self.old) (sees self.new) }
-        ensures told { IfTold (sees self.old) (ReadOut at out.old out.new (sees self.old) (sees self.new) result) };
+        ensures told { IfTold (sees self.old)
+            (ReadOut at out.old out.new (sees self.old) (sees self.new) result) };
 
     /// Puts the octets in place from `at` on. Until the next sync a cut may leave any octets there,
     /// also where the call fails.
@@ -52,7 +56,8 @@ pub trait Chip {
         requires octets { length bytes.now ≤ (sees self.old).spare.octets }
         ensures cause { HasCause (sees self.old) (sees self.new) result }
         ensures spare { Takes 1 (length bytes.now) (sees self.old) (sees self.new) }
-        ensures told { IfTold (sees self.old) (Written at bytes.now (sees self.old) (sees self.new) result) };
+        ensures told { IfTold (sees self.old)
+            (Written at bytes.now (sees self.old) (sees self.new) result) };
 
     /// Makes what was written last. A sync that fails syncs nothing.
     fn sync(&mut self) -> Result<(), Failed>
@@ -69,7 +74,7 @@ pub trait Chip {
         ensures told { IfTold (sees self.old) (Answered (sees self.old) (sees self.new) result) };
 
     /// What holds of every chip that tells its content, at every moment.
-    ghost sound: { (s : Self) → IfTold (sees s) (Sound 346624 (sees s)) };
+    ghost sound: { (s : Self) → IfTold (sees s) (Sound CHIP_SIZE (sees s)) };
 }
 
 /// A chip on a test bench, whose power can be cut at a planned call.
@@ -78,18 +83,23 @@ pub trait Bench: Chip {
     /// next one is the cut. It replaces an earlier plan; for want of memory the plan stays.
     fn plan_cut(&mut self, calls: u32, tear: Tear) -> Result<(), NoMemory>
         ensures quiet { Quiet (Self.sees self.old) (Self.sees self.new) }
-        ensures done { OnOk result (IfTold (Self.sees self.old) (Untouched (plan_of calls tear) (Self.sees self.old) (Self.sees self.new))) }
-        ensures refused { OnErr result (IfTold (Self.sees self.old) (Untouched (λ t. t) (Self.sees self.old) (Self.sees self.new))) };
+        ensures done { OnOk result (IfTold (Self.sees self.old)
+            (Untouched (plan_of calls tear) (Self.sees self.old) (Self.sees self.new))) }
+        ensures refused { OnErr result
+            (IfTold (Self.sees self.old) (Untouched (λ t. t) (Self.sees self.old)
+            (Self.sees self.new))) };
 
     /// Removes the plan. A cut that came stays.
     fn drop_plan(&mut self)
         ensures quiet { Quiet (Self.sees self.old) (Self.sees self.new) }
-        ensures told { IfTold (Self.sees self.old) (Untouched no_plan (Self.sees self.old) (Self.sees self.new)) };
+        ensures told { IfTold (Self.sees self.old)
+            (Untouched no_plan (Self.sees self.old) (Self.sees self.new)) };
 
     /// A power cycle: the content is one of the images that a cut could leave, and from then on the
     /// only one. The plan stays.
     fn power_on(&mut self) -> Result<(), Failed>
         ensures cause { HasCause (Self.sees self.old) (Self.sees self.new) result }
         ensures spare { Takes 0 0 (Self.sees self.old) (Self.sees self.new) }
-        ensures told { IfTold (Self.sees self.old) (Woken (Self.sees self.old) (Self.sees self.new) result) };
+        ensures told { IfTold (Self.sees self.old)
+            (Woken (Self.sees self.old) (Self.sees self.new) result) };
 }

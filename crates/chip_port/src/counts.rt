@@ -1,7 +1,8 @@
 //! What a chip in memory counts, and how its next call goes.
 
 ghost use Rattle.std.specs.Prelude.{◌≡◌, ◌+◌, ◌≤◌, true, false, if◌then◌else◌, is_some};
-ghost use Rattle.chip_port.specs.Seen.{called, Passes, Rose};
+ghost use Rattle.iot_bytes.specs.Causes.{Rose};
+ghost use Rattle.chip_port.specs.Seen.{called, Passes};
 ghost use Rattle.chip_port.specs.Counts.{tally_of, passed, cut_now, cut_by, torn_by};
 
 use crate::chip::Tear;
@@ -46,17 +47,20 @@ pub enum Turn {
 }
 
 impl Counts {
-    /// Counts a call and says how it goes. `breaks` tells that it is to fail unless a cut comes first.
+    /// Counts a call and says how it goes. `breaks` tells that it is to fail unless a cut comes
+    /// first.
     pub fn turn(&mut self, breaks: bool) -> Turn
         ensures tally { tally_of self.new ≡ called (passed result) (tally_of self.old) }
         ensures passes { passed result ≡ true → Passes (tally_of self.old) }
-        ensures fails { Passes (tally_of self.old) → passed result ≡ (if breaks then false else true) }
+        ensures fails { Passes (tally_of self.old) → passed result
+            ≡ (if breaks then false else true) }
         ensures later { self.old.faults ≤ self.new.faults }
         ensures rose { passed result ≡ false → Rose self.old.faults self.new.faults }
         ensures calm { passed result ≡ true → self.new.faults ≡ self.old.faults }
         ensures cuts { cut_now (tally_of self.old) ≡ cut_by result }
         ensures torn { self.new.cut ≡ torn_by (cut_now (tally_of self.old)) self.old.cut }
-        ensures room { (if is_some self.new.plan then 2 else 0) + (if is_some (cut_by result) then 2 else 0) ≤ (if is_some self.old.plan then 2 else 0) }
+        ensures room { (if is_some self.new.plan then 2 else 0) +
+            (if is_some (cut_by result) then 2 else 0) ≤ (if is_some self.old.plan then 2 else 0) }
     {
         self.uses = self.uses.saturating_add(1);
         if self.cut.is_some() {

@@ -6,11 +6,13 @@
 
 mod chip;
 mod counts;
+mod laws;
 mod medium;
 mod mem;
 
 pub use chip::{Bench, CHIP_SIZE, Chip, Tear};
 pub use iot_bytes::{Failed, NoMemory};
+pub use laws::what_lies_apart_stays;
 pub use mem::MemChip;
 
 #[cfg(test)]

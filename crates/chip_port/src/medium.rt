@@ -1,8 +1,10 @@
 //! The octets of a chip in memory, and all that was done to them.
 
-ghost use Rattle.std.specs.Prelude.{◌≡◌, ◌+◌, ◌-◌, ◌≤◌, ◌<◌, ◌∷◌, [], List, ℕ, length, take, drop, reverse, IfOk, OnOk, ◌++◌, vec_len, vec_capacity, true};
+ghost use Rattle.std.specs.Prelude.{◌≡◌, ◌+◌, ◌-◌, ◌≤◌, ◌<◌, ◌∷◌, [], List, ℕ, length, take, drop};
+ghost use Rattle.std.specs.Prelude.{reverse, IfOk, OnOk, ◌++◌, vec_len, vec_capacity, true};
 ghost use Rattle.chip_port.specs.Rules.{put};
-ghost use Rattle.chip_port.specs.Past.{Past, wrote, did_sync, did_answer, was_cut, woke_as, images, fits, zeros};
+ghost use Rattle.chip_port.specs.Past.{Past, wrote, did_sync, did_answer, was_cut, woke_as, images};
+ghost use Rattle.chip_port.specs.Past.{fits, zeros};
 ghost use Rattle.chip_port.specs.Medium.{Agree};
 
 use crate::chip::{CHIP_SIZE, Tear};
@@ -56,9 +58,9 @@ pub struct Medium {
 
 impl Model for Medium {
     ghost use Rattle.std.specs.Prelude.{◌≡◌, ◌-◌, ◌≤◌, true, reverse, vec_len, vec_capacity};
-    ghost use Rattle.chip_port.specs.Medium.{Taped, past_of, IsKept};
+    ghost use Rattle.chip_port.specs.Medium.{MediumSeen, past_of, IsKept};
 
-    ghost Value = { Taped };
+    ghost Value = { MediumSeen };
 
     ghost view = { λ m. record {
       past = past_of (reverse m.records.items) m.octets.items;
@@ -66,7 +68,8 @@ impl Model for Medium {
       octets = vec_capacity m.octets - vec_len m.octets;
     } };
 
-    ghost invariant = { λ m. IsKept (past_of (reverse m.records.items) m.octets.items) m.content.items m.synced.items m.junk.items };
+    ghost invariant = { λ m. IsKept (past_of (reverse m.records.items) m.octets.items)
+        m.content.items m.synced.items m.junk.items };
 }
 
 /// So many octets 0.
@@ -105,20 +108,21 @@ impl Medium {
 
     /// Fills `out` from the content.
     pub fn read(&self, at: usize, out: &mut [u8])
-        requires { at + length out.old ≤ 346624 }
-        ensures { out.new ≡ take (length out.old) (drop at (images 346624 self.now.past).content) }
+        requires { at + length out.old ≤ CHIP_SIZE }
+        ensures { out.new ≡ take (length out.old)
+            (drop at (images CHIP_SIZE self.now.past).content) }
     {
         out.copy_from_slice(&self.content[at..at + out.len()]);
     }
 
     /// Writes octets to the front of a range of `len`, all of which is then unsynced.
     pub fn write(&mut self, at: u64, len: u64, octets: &[u8])
-        requires inside { at + len ≤ 346624 }
+        requires inside { at + len ≤ CHIP_SIZE }
         requires short { length octets.now ≤ len }
         requires calls { 1 ≤ self.old.calls }
         requires room { length octets.now ≤ self.old.octets }
         ensures past { self.new.past ≡ wrote at len octets.now ∷ self.old.past }
-        ensures inside { fits 346624 self.new.past ≡ true }
+        ensures inside { fits CHIP_SIZE self.new.past ≡ true }
         ensures calls { self.old.calls ≤ self.new.calls + 1 }
         ensures octets { self.old.octets ≤ self.new.octets + length octets.now }
     {
@@ -140,7 +144,7 @@ impl Medium {
     pub fn sync(&mut self)
         requires { 1 ≤ self.old.calls }
         ensures past { self.new.past ≡ did_sync ∷ self.old.past }
-        ensures inside { fits 346624 self.new.past ≡ true }
+        ensures inside { fits CHIP_SIZE self.new.past ≡ true }
         ensures calls { self.old.calls ≤ self.new.calls + 1 }
         ensures octets { self.new.octets ≡ self.old.octets }
     {
@@ -153,7 +157,7 @@ impl Medium {
     pub fn answer(&mut self, cuts: u64, breaks: u64)
         requires { 1 ≤ self.old.calls }
         ensures past { self.new.past ≡ did_answer cuts breaks ∷ self.old.past }
-        ensures inside { fits 346624 self.new.past ≡ true }
+        ensures inside { fits CHIP_SIZE self.new.past ≡ true }
         ensures calls { self.old.calls ≤ self.new.calls + 1 }
         ensures octets { self.new.octets ≡ self.old.octets }
     {
@@ -164,7 +168,7 @@ impl Medium {
     pub fn cut(&mut self, tear: Tear)
         requires { 1 ≤ self.old.calls }
         ensures past { self.new.past ≡ was_cut tear ∷ self.old.past }
-        ensures inside { fits 346624 self.new.past ≡ true }
+        ensures inside { fits CHIP_SIZE self.new.past ≡ true }
         ensures calls { self.old.calls ≤ self.new.calls + 1 }
         ensures octets { self.new.octets ≡ self.old.octets }
     {
@@ -175,7 +179,7 @@ impl Medium {
     pub fn wake(&mut self, rises: Rises)
         requires { 1 ≤ self.old.calls }
         ensures past { self.new.past ≡ woke_as rises ∷ self.old.past }
-        ensures inside { fits 346624 self.new.past ≡ true }
+        ensures inside { fits CHIP_SIZE self.new.past ≡ true }
         ensures calls { self.old.calls ≤ self.new.calls + 1 }
         ensures octets { self.new.octets ≡ self.old.octets }
     {
@@ -208,7 +212,7 @@ fn copy_range(image: &mut [u8], content: &[u8], at: usize, len: usize)
 
 /// Copies to an image what was written since the last sync or power cycle.
 fn settle(image: &mut [u8], content: &[u8], records: &[Record])
-    requires { Agree 346624 (reverse records.now) image.old content.now }
+    requires { Agree CHIP_SIZE (reverse records.now) image.old content.now }
     ensures { image.new ≡ content.now }
 {
     let mut left = records.len();

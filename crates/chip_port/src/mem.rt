@@ -1,9 +1,12 @@
 //! A chip in memory, for tests and schedules.
 
-ghost use Rattle.std.specs.Prelude.{◌≡◌, ◌+◌, ◌*◌, ◌≤◌, [], ◌∷◌, length, take, true, if◌then◌else◌, is_some, IfOk, IsOk, IsTrue, ◌↔◌, Contains};
+ghost use Rattle.std.specs.Prelude.{◌≡◌, ◌+◌, ◌*◌, ◌≤◌, [], ◌∷◌, length, take, true, if◌then◌else◌};
+ghost use Rattle.std.specs.Prelude.{is_some, IfOk, IsOk, IsTrue, ◌↔◌, Contains};
+ghost use Rattle.chip_port.specs.declared.chip.TheConstants.{CHIP_SIZE};
 ghost use Rattle.chip_port.specs.Past.{fits, wrote, did_sync, did_answer};
 ghost use Rattle.chip_port.specs.Counts.{kept_len};
-ghost use Rattle.chip_port.specs.MemSeen.{seen_in, is_woken, sound_in, given, woken_past, StartsBlank};
+ghost use Rattle.chip_port.specs.MemSeen.{seen_in, is_woken, sound_in, given, woken_past};
+ghost use Rattle.chip_port.specs.MemSeen.{StartsBlank};
 
 use crate::chip::{Bench, Chip, Tear};
 use crate::counts::{Counts, Plan, Turn};
@@ -29,10 +32,11 @@ pub struct MemChip {
     octets: u64,
     failing: Row<u64>,
     woken: bool,
-    ghost inside: { fits 346624 medium.past ≡ true },
+    ghost inside: { fits CHIP_SIZE medium.past ≡ true },
     ghost woken_is: { is_woken medium.past ≡ woken },
     ghost few: { calls ≤ 1099511627776 },
-    ghost room: { 2 * calls + (if woken then 0 else 1) + (if is_some counts.plan then 2 else 0) ≤ medium.calls },
+    ghost room: { 2 * calls + (if woken then 0 else 1) + (if is_some counts.plan then 2 else 0)
+        ≤ medium.calls },
     ghost octet_room: { octets ≤ medium.octets },
 }
 
@@ -94,7 +98,8 @@ fn kept_octets(tear: Tear, len: usize) -> usize
 
 impl Chip for MemChip {
     ghost use Rattle.chip_port.specs.MemChipSeen.{sees_of, past_in, Plays, KeepsPast};
-    ghost use Rattle.chip_port.specs.Rules.{HasCause, Takes, IfTold, Prepared, Untouched, ReadOut, Written, Synced, Answered};
+    ghost use Rattle.chip_port.specs.Rules.{HasCause, Takes, IfTold, Prepared, Untouched, ReadOut};
+    ghost use Rattle.chip_port.specs.Rules.{Written, Synced, Answered};
 
     ghost sees = { λ s. seen_in s.medium.past s.counts s.calls s.octets };
 
@@ -104,7 +109,8 @@ impl Chip for MemChip {
     /// power cycle.
     fn prepare(&mut self, calls: u64, bytes: u64) -> Result<(), NoMemory>
         ensures room { Prepared calls bytes (sees_of self.old) (sees_of self.new) result }
-        ensures told { IfTold (sees_of self.old) (Untouched (λ t. t) (sees_of self.old) (sees_of self.new)) }
+        ensures told { IfTold (sees_of self.old)
+            (Untouched (λ t. t) (sees_of self.old) (sees_of self.new)) }
         ensures keeps { KeepsPast self.old self.new }
     {
         if calls > CALL_LIMIT || bytes > OCTET_LIMIT {
@@ -121,11 +127,13 @@ impl Chip for MemChip {
     }
 
     fn read(&mut self, at: u64, out: &mut [u8]) -> Result<(), Failed>
-        requires { at + length out.old ≤ 346624 }
+        requires { at + length out.old ≤ CHIP_SIZE }
         ensures cause { HasCause (sees_of self.old) (sees_of self.new) result }
         ensures spare { Takes 0 0 (sees_of self.old) (sees_of self.new) }
-        ensures told { IfTold (sees_of self.old) (ReadOut at out.old out.new (sees_of self.old) (sees_of self.new) result) }
-        ensures plays { Plays (past_in self.old) (λ tear. past_in self.old) self.old self.new result }
+        ensures told { IfTold (sees_of self.old)
+            (ReadOut at out.old out.new (sees_of self.old) (sees_of self.new) result) }
+        ensures plays { Plays (past_in self.old)
+            (λ tear. past_in self.old) self.old self.new result }
     {
         let breaks = self.fails_now();
         match self.counts.turn(breaks) {
@@ -143,13 +151,17 @@ impl Chip for MemChip {
     }
 
     fn write_at(&mut self, at: u64, bytes: &[u8]) -> Result<(), Failed>
-        requires range { at + length bytes.now ≤ 346624 }
+        requires range { at + length bytes.now ≤ CHIP_SIZE }
         requires calls { 1 ≤ (sees_of self.old).spare.calls }
         requires octets { length bytes.now ≤ (sees_of self.old).spare.octets }
         ensures cause { HasCause (sees_of self.old) (sees_of self.new) result }
         ensures spare { Takes 1 (length bytes.now) (sees_of self.old) (sees_of self.new) }
-        ensures told { IfTold (sees_of self.old) (Written at bytes.now (sees_of self.old) (sees_of self.new) result) }
-        ensures plays { Plays (wrote at (length bytes.now) bytes.now ∷ past_in self.old) (λ tear. wrote at (length bytes.now) (take (kept_len tear (length bytes.now)) bytes.now) ∷ past_in self.old) self.old self.new result }
+        ensures told { IfTold (sees_of self.old)
+            (Written at bytes.now (sees_of self.old) (sees_of self.new) result) }
+        ensures plays { Plays (wrote at (length bytes.now) bytes.now ∷ past_in self.old)
+            (λ tear. let n = length bytes.now in
+            wrote at n (take (kept_len tear n) bytes.now) ∷ past_in self.old)
+            self.old self.new result }
     {
         let breaks = self.fails_now();
         let len = bytes.len() as u64;
@@ -176,8 +188,10 @@ impl Chip for MemChip {
         requires { 1 ≤ (sees_of self.old).spare.calls }
         ensures cause { HasCause (sees_of self.old) (sees_of self.new) result }
         ensures spare { Takes 1 0 (sees_of self.old) (sees_of self.new) }
-        ensures told { IfTold (sees_of self.old) (Synced (sees_of self.old) (sees_of self.new) result) }
-        ensures plays { Plays (did_sync ∷ past_in self.old) (λ tear. past_in self.old) self.old self.new result }
+        ensures told { IfTold (sees_of self.old)
+            (Synced (sees_of self.old) (sees_of self.new) result) }
+        ensures plays { Plays (did_sync ∷ past_in self.old)
+            (λ tear. past_in self.old) self.old self.new result }
     {
         let breaks = self.fails_now();
         self.calls -= 1;
@@ -200,8 +214,11 @@ impl Chip for MemChip {
         requires { 1 ≤ (sees_of self.old).spare.calls }
         ensures cause { HasCause (sees_of self.old) (sees_of self.new) result }
         ensures spare { Takes 1 0 (sees_of self.old) (sees_of self.new) }
-        ensures told { IfTold (sees_of self.old) (Answered (sees_of self.old) (sees_of self.new) result) }
-        ensures plays { Plays (did_answer self.old.counts.cuts self.old.counts.breaks ∷ past_in self.old) (λ tear. past_in self.old) self.old self.new result }
+        ensures told { IfTold (sees_of self.old)
+            (Answered (sees_of self.old) (sees_of self.new) result) }
+        ensures plays { Plays
+            (did_answer self.old.counts.cuts self.old.counts.breaks ∷ past_in self.old)
+            (λ tear. past_in self.old) self.old self.new result }
     {
         let breaks = self.fails_now();
         self.calls -= 1;
@@ -230,8 +247,10 @@ impl Bench for MemChip {
     /// It makes room for the record of the cut and of the next power cycle.
     fn plan_cut(&mut self, calls: u32, tear: Tear) -> Result<(), NoMemory>
         ensures quiet { Quiet (sees_of self.old) (sees_of self.new) }
-        ensures done { OnOk result (IfTold (sees_of self.old) (Untouched (plan_of calls tear) (sees_of self.old) (sees_of self.new))) }
-        ensures refused { OnErr result (IfTold (sees_of self.old) (Untouched (λ t. t) (sees_of self.old) (sees_of self.new))) }
+        ensures done { OnOk result (IfTold (sees_of self.old)
+            (Untouched (plan_of calls tear) (sees_of self.old) (sees_of self.new))) }
+        ensures refused { OnErr result
+            (IfTold (sees_of self.old) (Untouched (λ t. t) (sees_of self.old) (sees_of self.new))) }
         ensures keeps { KeepsPast self.old self.new }
     {
         if self.medium.room(2 * self.calls as usize + 3, 0).is_err() {
@@ -244,7 +263,8 @@ impl Bench for MemChip {
 
     fn drop_plan(&mut self)
         ensures quiet { Quiet (sees_of self.old) (sees_of self.new) }
-        ensures told { IfTold (sees_of self.old) (Untouched no_plan (sees_of self.old) (sees_of self.new)) }
+        ensures told { IfTold (sees_of self.old)
+            (Untouched no_plan (sees_of self.old) (sees_of self.new)) }
         ensures keeps { KeepsPast self.old self.new }
     {
         self.counts.plan = None;
@@ -255,7 +275,8 @@ impl Bench for MemChip {
     fn power_on(&mut self) -> Result<(), Failed>
         ensures cause { HasCause (sees_of self.old) (sees_of self.new) result }
         ensures spare { Takes 0 0 (sees_of self.old) (sees_of self.new) }
-        ensures told { IfTold (sees_of self.old) (Woken (sees_of self.old) (sees_of self.new) result) }
+        ensures told { IfTold (sees_of self.old)
+            (Woken (sees_of self.old) (sees_of self.new) result) }
         ensures gives { (sees_of self.new).reads ≡ given (past_in self.old) (tear_in self.old) }
         ensures past { past_in self.new ≡ woken_past (past_in self.old) (tear_in self.old) }
         ensures tear { tear_in self.new ≡ None }

@@ -16,7 +16,8 @@ fn store<C: Chip>(chip: &mut C) -> Result<(), Failed>
     requires calls { 5 ≤ (C.sees chip.old).spare.calls }
     requires octets { 3 ≤ (C.sees chip.old).spare.octets }
     ensures cause { HasCause (C.sees chip.old) (C.sees chip.new) result }
-    ensures told { IfTold (C.sees chip.old) (Stores (is_ok result) (C.sees chip.old) (C.sees chip.new)) }
+    ensures told { IfTold (C.sees chip.old)
+        (Stores (is_ok result) (C.sees chip.old) (C.sees chip.new)) }
 {
     chip.write_at(0, &[1, 2])?;
     chip.sync()?;

@@ -3,9 +3,11 @@ use Rattle.std.proofs.Common.{◌≡◌, inl, inr, ℕ, zero, suc, ◌+◌, ◌*
 use Rattle.std.proofs.lemmas.Bool.{cases_order}
 use Rattle.std.proofs.lemmas.List.{drop-drop}
 use Rattle.chip_port.specs.Rules.{put}
+use Rattle.chip_port.proofs.Apart.{drop_past}
+use Rattle.chip_port.specs.PastLaws.{length-put}
 use Rattle.undo_journal.specs.Home.{put_back, kept, home_in, block_of, AreBlocks}
 use Rattle.undo_journal.specs.States.{Has, IsOpened}
-use Rattle.undo_journal.proofs.PutBack.{From, length-put, drop_past, length_front, has_above}
+use Rattle.undo_journal.proofs.PutBack.{From, length_front, has_above}
 use Rattle.undo_journal.proofs.Gates.{from_rises}
 use Rattle.undo_journal.proofs.Keeping.{region_before, region_next}
 

@@ -43,6 +43,12 @@ gate_closed {T} {U} {V} {E} {blocks} {old} {before} {a} {b} {c} {d} {x} {y} {res
             front = ap (λ (l : List ℕ). same_octets l magic) gate.1 ∙ now.keeps.front;
             shut = ap (λ (n : ℕ). n == 165) gate.2;
           };
+      gate = λ ok.
+          let last = gate_opened result (written told') (settled told'') ok in
+          (put_gate d.reads a.reads 0 (sound.sized a.reads sound.reads_now) (last.0 ∙ ap (λ (l : List ℕ). put l 256 (0 ∷ [])) (synced told).reads)).2;
+      content = λ ok.
+          let last = gate_opened result (written told') (settled told'') ok in
+          last.0 ∙ ap (λ (l : List ℕ). put l 256 (0 ∷ [])) (synced told).reads;
       home_now = λ ok.
           let last = gate_opened result (written told') (settled told'') ok in
           (put_gate d.reads a.reads 0 (sound.sized a.reads sound.reads_now) (last.0 ∙ ap (λ (l : List ℕ). put l 256 (0 ∷ [])) (synced told).reads)).0;

@@ -1,23 +1,15 @@
 -- What an image stands for while the gate is opened, open, and closed.
 use Rattle.std.proofs.Common.{◌≡◌, ◌⊎◌, inl, inr, ℕ, ◌+◌, ◌-◌, ◌*◌, ◌<◌, ◌≤◌, ◌/◌, ◌%◌, Bool, true, false, List, [], ◌∷◌, ◌++◌, length, take, drop, get_or, refl, sym, ◌∙◌, ap, subst, arith, length-drop, length-take, take-append-drop}
-use Rattle.std.specs.Prelude.{Some, ◌==◌, leb, ◌&&◌, suc}
+use Rattle.std.specs.Prelude.{Option, Some, None, if◌then◌else◌, ◌==◌, leb, ◌&&◌, suc}
 use Rattle.std.proofs.lemmas.Grind.{common_steps}
 use Rattle.std.proofs.lemmas.Bool.Decides.{nat_tests}
-use Rattle.std.proofs.lemmas.List.{take-take, drop-drop, drop-take, get_or-take, append-nil}
+use Rattle.std.proofs.lemmas.List.{take-take, drop-drop, drop-take, append-nil}
 use Rattle.chip_port.specs.Rules.{put, Torn}
+use Rattle.chip_port.proofs.Apart.{drop_past, take_before, torn_front, torn_back, torn_middle, torn_get}
 use Rattle.undo_journal.specs.Steps.{spelled, directory_of}
 use Rattle.undo_journal.specs.Home.{numbers, count_of, entries, rises, is_well_formed, put_back, kept, same_octets, magic, has_magic, is_open, home_in, home, AreBlocks}
 use Rattle.undo_journal.specs.States.{Has, Lists, Keeps, IsRecorded, IsOpenOver}
-use Rattle.undo_journal.proofs.PutBack.{From, put_back_torn, put_back_kept, drop_past, take_before}
-
-pub torn_front : (at n k : ℕ) (d i : List ℕ) → k ≤ at → Torn at n d i → take k i ≡ take k d
-torn_front at n k d i le t = sym (take-take k at i le) ∙ ap (λ (l : List ℕ). take k l) t.before ∙ take-take k at d le
-
-pub torn_back : (at n k : ℕ) (d i : List ℕ) → at + n ≤ k → Torn at n d i → drop k i ≡ drop k d
-torn_back at n k d i le t = on i ∙ ap (λ (l : List ℕ). drop (k - (at + n)) l) t.after ∙ sym (on d)
-  where
-    on : (l : List ℕ) → drop k l ≡ drop (k - (at + n)) (drop (at + n) l)
-    on l = let e : k ≡ at + n + (k - (at + n)) = omega arith in ap (λ (m : ℕ). drop m l) e ∙ sym (drop-drop (k - (at + n)) (at + n) l)
+use Rattle.undo_journal.proofs.PutBack.{From, put_back_torn, put_back_kept}
 
 pub from_rises : (n : ℕ) (blocks : List ℕ) → rises blocks ≡ true → ((b : ℕ) (bs : List ℕ) → blocks ≡ b ∷ bs → n ≤ b) → From n blocks
 from_rises n [] r le = tt
@@ -93,6 +85,15 @@ pub home_shut : (image : List ℕ) → has_magic image ≡ true → is_open imag
 unfolding home
 home_shut image front shut = simp (front, shut)
 
+where_true : (b : Bool) (o : Option (List ℕ)) (blocks : List ℕ) → (if b then o else None) ≡ Some blocks → b ≡ true
+where_true true o blocks e = refl
+where_true false o blocks e = absurd cc
+
+-- an image with a home has the magic
+pub home_magic : (image blocks : List ℕ) → home image ≡ Some blocks → has_magic image ≡ true
+unfolding home
+home_magic image blocks e = where_true (has_magic image) _ blocks e
+
 bool_cases : (b : Bool) → (b ≡ true) ⊎ (b ≡ false)
 bool_cases true = inl refl
 bool_cases false = inr refl
@@ -144,12 +145,6 @@ closing blocks old before d i are o t =
           )
       | inr shuts ↦ inr (home_shut i keeps.front shuts ∙ ap (λ (l : List ℕ). Some l) same)
     ]
-
-pub torn_middle : (at n from k : ℕ) (d i : List ℕ) → from + k ≤ at → Torn at n d i → take k (drop from i) ≡ take k (drop from d)
-torn_middle at n from k d i le t = sym (drop-take from k i) ∙ ap (λ (l : List ℕ). drop from l) (torn_front at n (from + k) d i le t) ∙ drop-take from k d
-
-pub torn_get : (at n k : ℕ) (d i : List ℕ) → k < at → Torn at n d i → get_or i k 0 ≡ get_or d k 0
-torn_get at n k d i lt t = sym (get_or-take at i k 0 lt) ∙ ap (λ (l : List ℕ). get_or l k 0) t.before ∙ get_or-take at d k 0 lt
 
 torn_drop : (k at n : ℕ) (d i : List ℕ) → Torn (k + at) n d i → Torn at n (drop k d) (drop k i)
 torn_drop k at n d i t = record {

@@ -1,24 +1,20 @@
 -- Keeping old blocks, and opening the gate.
-use Rattle.std.proofs.Common.{◌≡◌, ℕ, zero, suc, ◌+◌, ◌-◌, ◌*◌, ◌<◌, ◌≤◌, true, false, List, [], ◌∷◌, ◌++◌, length, take, drop, get_or, refl, sym, ◌∙◌, ap, subst, arith, length-drop, length-take, length-append, add-one, append_assoc}
+use Rattle.std.proofs.Common.{◌≡◌, ◌⊎◌, inl, inr, ℕ, zero, suc, ◌+◌, ◌-◌, ◌*◌, ◌<◌, ◌≤◌, true, false, List, [], ◌∷◌, ◌++◌, length, take, drop, get_or, refl, sym, ◌∙◌, ap, subst, arith, length-drop, length-take, length-append, add-one, append_assoc}
 use Rattle.std.specs.Prelude.{Some, ◌==◌, Bool, Result, is_ok}
 use Rattle.chip_port.specs.Seen.{Seen}
 use Rattle.chip_port.specs.Runs.{Ran}
 use Rattle.chip_port.proofs.Runs.{ran_none, ran_write, ran_then, ran_most}
+use Rattle.std.proofs.lemmas.Bool.{cases_order}
 use Rattle.std.proofs.lemmas.Grind.{common_steps}
 use Rattle.std.proofs.lemmas.List.{take-take, drop-drop, drop-take, take_at, append-nil}
+use Rattle.chip_port.specs.PastLaws.{torn_put}
 use Rattle.chip_port.specs.Rules.{put, Torn, HasCause, IfTold, Written}
+use Rattle.chip_port.proofs.Apart.{drop_put, take_before, torn_front, torn_back, torn_get, range_apart}
 use Rattle.undo_journal.specs.Steps.{directory_of}
-use Rattle.undo_journal.specs.Home.{put_back, same_octets, magic, has_magic, is_open, home_in, home, kept, AreBlocks}
+use Rattle.undo_journal.specs.Home.{put_back, same_octets, magic, has_magic, is_open, home_in, home, block_of, kept, AreBlocks}
 use Rattle.undo_journal.specs.States.{Has, EachOf, IsRecorded, IsOpened}
-use Rattle.undo_journal.proofs.PutBack.{drop_put, drop_past, take_before, length-put, length_part, has_above}
-use Rattle.undo_journal.proofs.Gates.{torn_front, torn_back, torn_get, keeps_torn, kept_back, length-recorded, home_shut, put_gate, lists_spelled, from_rises, home_torn, opened_home}
-
-pub torn_put : (at : ℕ) (octets r : List ℕ) → at + length octets ≤ length r → Torn at (length octets) r (put r at octets)
-torn_put at octets r le = record {
-  before = take_before at at octets r (omega arith) (omega arith);
-  after = drop_past (at + length octets) at octets r (omega arith) le;
-  size = length-put r at octets le;
-}
+use Rattle.undo_journal.proofs.PutBack.{length_part, has_above}
+use Rattle.undo_journal.proofs.Gates.{keeps_torn, kept_back, length-recorded, home_shut, put_gate, lists_spelled, from_rises, home_torn, opened_home}
 
 -- what is written in front of the home leaves it
 pub behind_shut : (r i : List ℕ) → has_magic r ≡ true → is_open r ≡ false → Torn 512 173824 r i → home i ≡ home r
@@ -30,7 +26,7 @@ behind_shut r i front shut t =
 -- the open gate of a recorded journal
 pub gate_raised : (blocks before r x : List ℕ) → AreBlocks blocks → IsRecorded blocks before r → x ≡ put r 256 (165 ∷ []) → IsOpened blocks before x
 gate_raised blocks before r x are rec is =
-    let torn : Torn 256 1 r x = subst (λ (l : List ℕ). Torn 256 1 r l) (sym is) (torn_put 256 (165 ∷ []) r (omega (arith, rec.keeps.size))) in
+    let torn : Torn 256 1 r x = subst (λ (l : List ℕ). Torn 256 1 r l) (sym is) (torn_put r 256 1 (165 ∷ []) (omega (arith, rec.keeps.size)) (omega arith)) in
     let gate = put_gate x r 165 rec.keeps.size is in
     record {
       keeps = keeps_torn blocks (kept blocks before) r x torn rec.keeps;
@@ -108,6 +104,18 @@ pub home_put : (r x : List ℕ) (block : ℕ) (octets : List ℕ) → block < 67
 home_put r x block octets below size is =
     let there : 174336 + 256 * block - 174336 ≡ 256 * block = omega arith in
     ap home_in is ∙ drop_put 174336 (174336 + 256 * block) octets r (omega arith) (omega arith) ∙ ap (λ (at : ℕ). put (home_in r) at octets) there
+
+-- another home block than the one that is written
+pub others_written : (block other : ℕ) (old new : List ℕ) → Torn (174336 + 256 * block) 256 old new → (other ≡ block → ⊥) → block_of (home_in new) other ≡ block_of (home_in old) other
+others_written block other old new t apart = at new ∙ range_apart (174336 + 256 * block) 256 (174336 + 256 * other) 256 old new t (aside (cases_order other block)) ∙ sym (at old)
+  where
+    at : (l : List ℕ) → block_of (home_in l) other ≡ take 256 (drop (174336 + 256 * other) l)
+    at l = ap (λ (x : List ℕ). take 256 x) (drop-drop (256 * other) 174336 l)
+
+    aside : ((other ≡ block) ⊎ ((other < block) ⊎ (block < other))) → (174336 + 256 * other + 256 ≤ 174336 + 256 * block) ⊎ (174336 + 256 * block + 256 ≤ 174336 + 256 * other)
+    aside (inl same) = absurd (apart same)
+    aside (inr (inl below)) = inl (omega arith)
+    aside (inr (inr above)) = inr (omega arith)
 
 -- a kept block is below 673
 pub kept_below : (blocks : List ℕ) (block : ℕ) → AreBlocks blocks → Has block blocks → block < 673

@@ -1,10 +1,10 @@
 -- What is put back.
-use Rattle.std.proofs.Common.{◌≡◌, ◌⊎◌, inl, inr, ℕ, ◌+◌, ◌-◌, ◌*◌, ◌<◌, ◌≤◌, List, [], ◌∷◌, ◌++◌, length, take, drop, refl, sym, ◌∙◌, ap, subst, arith, append_assoc, length-drop, length-append}
+use Rattle.std.proofs.Common.{◌≡◌, ◌⊎◌, inl, inr, ℕ, ◌+◌, ◌-◌, ◌*◌, ◌<◌, ◌≤◌, List, [], ◌∷◌, ◌++◌, length, take, drop, refl, sym, ◌∙◌, ap, subst, arith, append_assoc, length-drop}
 use Rattle.std.proofs.lemmas.Grind.{common_steps}
-use Rattle.std.proofs.lemmas.List.{take-append-drop, take-take, drop-drop, take_at, drop_at, take-append-le, drop-append-le, drop-take}
-use Rattle.std.proofs.Math.Seq.{take-append-add}
-use Rattle.std.proofs.lemmas.Slice.{drop-append-drop}
+use Rattle.std.proofs.lemmas.List.{take-append-drop, drop-drop, take_at, drop_at}
 use Rattle.chip_port.specs.Rules.{put, Torn}
+use Rattle.chip_port.specs.PastLaws.{length-put}
+use Rattle.chip_port.proofs.Apart.{take_before, drop_put, take_put, drop_past}
 use Rattle.undo_journal.specs.Home.{put_back, kept}
 use Rattle.undo_journal.specs.States.{Has}
 
@@ -12,9 +12,6 @@ use Rattle.undo_journal.specs.States.{Has}
 abbrev pub From : ℕ → List ℕ → Type 0
 From n [] = Unit {0}
 From n (b ∷ bs) = (n ≤ b) × (b < 673) × From (b + 1) bs
-
-pub length-put : (image : List ℕ) (at : ℕ) (octets : List ℕ) → at + length octets ≤ length image → length (put image at octets) ≡ length image
-length-put image at octets le = grind (arith, common_steps)
 
 pub length_front : (n : ℕ) (x : List ℕ) → n ≤ length x → length (take n x) ≡ n
 length_front n x le = grind (arith, common_steps)
@@ -33,38 +30,6 @@ put_same home at n le =
 -- what a put covers doesn't count
 pub put_torn : (at : ℕ) (octets a b : List ℕ) → Torn at (length octets) a b → put b at octets ≡ put a at octets
 put_torn at octets a b t = ap (λ (l : List ℕ). l ++ octets ++ drop (at + length octets) b) t.before ∙ ap (λ (l : List ℕ). take at a ++ octets ++ l) t.after
-
-pub take_before : (k to : ℕ) (octets x : List ℕ) → k ≤ to → to ≤ length x → take k (put x to octets) ≡ take k x
-take_before k to octets x le in_x =
-    let len : length (take to x) ≡ to = length_front to x in_x in
-    take-append-le k (take to x ++ octets) (drop (to + length octets) x) (omega (arith, length-append (take to x) octets))
-    ∙ take-append-le k (take to x) octets (omega arith) ∙ take-take k to x le
-
-pub drop_put : (k to : ℕ) (octets x : List ℕ) → k ≤ to → to ≤ length x → drop k (put x to octets) ≡ put (drop k x) (to - k) octets
-drop_put k to octets x le in_x =
-    let len : length (take to x) ≡ to = length_front to x in_x in
-    let D = drop (to + length octets) x in
-    let is : to ≡ k + (to - k) = omega arith in
-    let past : k + (to - k + length octets) ≡ to + length octets = omega arith in
-    drop-append-le k (take to x ++ octets) D (omega (arith, length-append (take to x) octets))
-    ∙ ap (λ (l : List ℕ). l ++ D) (drop-append-le k (take to x) octets (omega arith) ∙ ap (λ (l : List ℕ). l ++ octets) (ap (λ (m : ℕ). drop k (take m x)) is ∙ drop-take k (to - k) x))
-    ∙ ap (λ (l : List ℕ). take (to - k) (drop k x) ++ octets ++ l) (sym (drop-drop (to - k + length octets) k x ∙ ap (λ (m : ℕ). drop m x) past))
-
-take_put : (k to : ℕ) (octets x : List ℕ) → to + length octets ≤ k → to + length octets ≤ length x → take k (put x to octets) ≡ put (take k x) to octets
-take_put k to octets x le in_x =
-    let len : length (take to x) ≡ to = length_front to x (omega arith) in
-    let X = take to x ++ octets in
-    let D = drop (to + length octets) x in
-    let n = k - (to + length octets) in
-    let size : length X ≡ to + length octets = length-append (take to x) octets ∙ ap (λ (m : ℕ). m + length octets) len in
-    let is : k ≡ length X + n = omega arith in
-    let is_too : to + length octets + n ≡ k = omega arith in
-    ap (λ (m : ℕ). take m (X ++ D)) is ∙ take-append-add X D n
-    ∙ ap (λ (l : List ℕ). l ++ octets ++ take n D) (sym (take-take to k x (omega arith)))
-    ∙ ap (λ (l : List ℕ). take to (take k x) ++ octets ++ l) (sym (drop-take (to + length octets) n x) ∙ ap (λ (m : ℕ). drop (to + length octets) (take m x)) is_too)
-
-pub drop_past : (k to : ℕ) (octets x : List ℕ) → to + length octets ≤ k → to + length octets ≤ length x → drop k (put x to octets) ≡ drop k x
-drop_past k to octets x le in_x = drop-append-drop (to + length octets) x (take to x ++ octets) k le (grind (arith, common_steps))
 
 pub has_above : (n b : ℕ) (blocks : List ℕ) → From n blocks → Has b blocks → (n ≤ b) × (b < 673)
 has_above n b [] f h = absurd h

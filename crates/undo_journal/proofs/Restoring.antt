@@ -6,10 +6,10 @@ use Rattle.std.proofs.lemmas.List.{take-take, drop-drop, drop-take}
 use Rattle.std.proofs.Math.Seq.{drop-cons}
 use Rattle.chip_port.specs.Seen.{Seen}
 use Rattle.chip_port.specs.Rules.{put, Sound}
+use Rattle.chip_port.proofs.Apart.{drop_put}
 use Rattle.undo_journal.specs.Home.{entries, put_back, has_magic, is_open, directory_in, home_in, home, is_well_formed, AreBlocks}
 use Rattle.undo_journal.specs.States.{Lists, EachOf, IsOpenOver}
 use Rattle.undo_journal.specs.Steps.{IsFound}
-use Rattle.undo_journal.proofs.PutBack.{drop_put}
 use Rattle.undo_journal.proofs.Listing.{well_formed_lists}
 use Rattle.undo_journal.proofs.Gates.{opened_home}
 

@@ -3,16 +3,14 @@ use Rattle.std.proofs.Common.{◌≡◌, ℕ, ◌+◌, ◌-◌, ◌≤◌, List,
 use Rattle.std.specs.Prelude.{Result, Ok, Err, is_ok, OnOk, true}
 use Rattle.std.proofs.lemmas.List.{take-take, drop-drop}
 use Rattle.chip_port.specs.Seen.{Seen}
+use Rattle.chip_port.specs.PastLaws.{torn_same}
 use Rattle.chip_port.specs.Rules.{Only, Torn, put, Written, Synced}
-
-pub torn_none : (at n : ℕ) (image : List ℕ) → Torn at n image image
-torn_none at n image = record { before = refl; after = refl; size = refl }
 
 pub torn_only : (at n : ℕ) (s : Seen) → Only s.reads s.leaves → (d i : List ℕ) → s.leaves d → Torn at n d i → Torn at n s.reads i
 torn_only at n s only d i was torn = subst (λ (l : List ℕ). Torn at n l i) (only d was) torn
 
 pub none_only : (at n : ℕ) (s : Seen) → Only s.reads s.leaves → (i : List ℕ) → s.leaves i → Torn at n s.reads i
-none_only at n s only i was = subst (λ (l : List ℕ). Torn at n s.reads l) (sym (only i was)) (torn_none at n s.reads)
+none_only at n s only i was = subst (λ (l : List ℕ). Torn at n s.reads l) (sym (only i was)) (torn_same at n s.reads)
 
 -- inside a wider range
 pub torn_wider : (at n from m : ℕ) (d i : List ℕ) → from ≤ at → at + n ≤ from + m → Torn at n d i → Torn from m d i

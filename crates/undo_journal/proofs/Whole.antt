@@ -6,9 +6,9 @@ use Rattle.chip_port.specs.Runs.{Ran}
 use Rattle.chip_port.proofs.Runs.{ran_none, ran_then, ran_most, ran_since}
 use Rattle.undo_journal.specs.declared.recovery.RecoverEnd.{RecoverEnd}
 use Rattle.undo_journal.specs.declared.recovery.RecoverEnd.TheVariants.{Failed, Foreign, NoMemory}
-use Rattle.undo_journal.specs.Home.{same_octets, magic, home, home_in}
+use Rattle.undo_journal.specs.Home.{same_octets, magic, home, home_in, is_open, gate_of}
 use Rattle.undo_journal.specs.States.{IsIdle}
-use Rattle.undo_journal.specs.Recover.{IfForeign, IfNoMemory, WritesNothing, NoHome, Recovered, Recovers}
+use Rattle.undo_journal.specs.Recover.{IfForeign, IfNoMemory, WritesNothing, NoHome, Recovered, ClosedGate, Recovers}
 use Rattle.undo_journal.specs.Steps.{Begins, IsFound, RollsBack}
 use Rattle.undo_journal.proofs.Gates.{home_shut}
 
@@ -32,9 +32,12 @@ nothing_then : (a b c : Seen) → WritesNothing a b → WritesNothing b c → Wr
 nothing_then a b c ab bc = record { reads = bc.reads ∙ ab.reads; leaves = λ i now. ab.leaves i (bc.leaves i now); left = λ k i now. ab.left k i (bc.left k i now) }
 
 pub begun_err : (end : RecoverEnd) (a b : Seen) → a.told ≡ true → Counts a → Begins (Err end) a b → Recovers (Err end) a b
-begun_err Failed a b told law s = let run = ran_most (omega arith) (since_entry told s.ran) in record { ran = run; adds = ran_since run law; done = tt; foreign = s.foreign; no_memory = s.no_memory }
-begun_err Foreign a b told law s = let run = ran_most (omega arith) (since_entry told s.ran) in record { ran = run; adds = ran_since run law; done = tt; foreign = s.foreign; no_memory = s.no_memory }
-begun_err NoMemory a b told law s = let run = ran_most (omega arith) (since_entry told s.ran) in record { ran = run; adds = ran_since run law; done = tt; foreign = s.foreign; no_memory = s.no_memory }
+begun_err Failed a b told law s = let run = ran_most (omega arith) (since_entry told s.ran) in record { ran = run; adds = ran_since run law; shut = λ _. s.nothing; done = tt; gate = tt; foreign = s.foreign; no_memory = s.no_memory }
+begun_err Foreign a b told law s = let run = ran_most (omega arith) (since_entry told s.ran) in record { ran = run; adds = ran_since run law; shut = λ _. s.nothing; done = tt; gate = tt; foreign = s.foreign; no_memory = s.no_memory }
+begun_err NoMemory a b told law s = let run = ran_most (omega arith) (since_entry told s.ran) in record { ran = run; adds = ran_since run law; shut = λ _. s.nothing; done = tt; gate = tt; foreign = s.foreign; no_memory = s.no_memory }
+
+not_both : {X : Type 0} (b : Bool) → b ≡ true → b ≡ false → X
+not_both b on off = absurd (cc (on, off))
 
 -- behind a closed gate there is nothing to put back
 pub begun_shut : (a b : Seen) → a.told ≡ true → Counts a → Begins (Ok false) a b → Recovers (Ok tt) a b
@@ -44,6 +47,8 @@ begun_shut a b told law s =
     record {
       ran = run;
       adds = ran_since run law;
+      shut = λ _. s.nothing;
+      gate = record { was_shut = λ _. ap gate_of same; was_open = λ opened. not_both (is_open a.reads) opened (sym s.found.gate) };
       foreign = tt;
       no_memory = tt;
       done = record {
@@ -81,6 +86,10 @@ recovered : (r : Result (Unit {0}) RecoverEnd) (a b c : Seen) → b.reads ≡ a.
 recovered (Ok x) a b c same h = record { idle = h.idle; home_was = ap home (sym same) ∙ h.home_was; home_is = h.home_is ∙ ap home same }
 recovered (Err e) a b c same h = tt
 
+closed_gate : (r : Result (Unit {0}) RecoverEnd) (a c : Seen) → is_open a.reads ≡ true → IfOk r (λ _. gate_of c.reads ≡ 0) → IfOk r (λ _. ClosedGate a c)
+closed_gate (Ok x) a c opened h = record { was_shut = λ shut. not_both (is_open a.reads) opened shut; was_open = λ _. h }
+closed_gate (Err e) a c opened h = tt
+
 pub rolled : (r : Result (Unit {0}) RecoverEnd) (a b c : Seen) → a.told ≡ true → Counts a → Begins (Ok true) a b → RollsBack r b c → Recovers r a c
 rolled r a b c told law s t =
     let same = s.found.same in
@@ -88,8 +97,10 @@ rolled r a b c told law s t =
     record {
       ran = run;
       adds = ran_since run law;
+      shut = λ shut. not_both (is_open a.reads) (sym s.found.gate) shut;
+      gate = closed_gate r a c (sym s.found.gate) t.gate;
       done = recovered r a b c same t.done;
-      foreign = no_home r a b c (wrote_nothing s.ran law same) t.foreign;
+      foreign = no_home r a b c s.nothing t.foreign;
       no_memory = never r _ t.no_memory;
     }
 

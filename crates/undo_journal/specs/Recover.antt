@@ -1,11 +1,13 @@
 -- What recovery does to the chip.
 use Rattle.std.specs.Prelude.{◌≡◌, ◌⊎◌, ℕ, ◌≤◌, Bool, true, false, List, Some, None, Result, Ok, Err, IfOk, IsErrOf}
-use Rattle.chip_port.specs.Seen.{Seen, Rose}
+use Rattle.iot_bytes.specs.Causes.{Rose}
+use Rattle.chip_port.specs.Seen.{Seen}
 use Rattle.chip_port.specs.Rules.{Untouched}
 use Rattle.chip_port.specs.Runs.{Ran}
 use Rattle.undo_journal.specs.declared.recovery.RecoverEnd.{RecoverEnd}
 use Rattle.undo_journal.specs.declared.recovery.RecoverEnd.TheVariants.{Failed, Foreign, NoMemory}
-use Rattle.undo_journal.specs.Home.{home, home_in}
+use Rattle.undo_journal.specs.declared.layout.TheConstants.{CLOSED}
+use Rattle.undo_journal.specs.Home.{home, home_in, is_open, gate_of}
 use Rattle.undo_journal.specs.States.{IsIdle}
 
 -- no call of the chip failed
@@ -50,10 +52,17 @@ pub record NoHome (old new : Seen) : Type 0 where
   pub none : home old.reads ≡ None
   pub nothing : WritesNothing old new
 
--- recovery: whatever a cut leaves at any moment of it could be left at its start, or has the home that was there
+-- a closed gate stays as it is, and an open one is closed by the octet 00
+pub record ClosedGate (old new : Seen) : Type 0 where
+  pub was_shut : is_open old.reads ≡ false → gate_of new.reads ≡ gate_of old.reads
+  pub was_open : is_open old.reads ≡ true → gate_of new.reads ≡ CLOSED
+
+-- recovery: whatever a cut leaves at any moment of it could be left at its start, or has the home that was there; behind a closed gate nothing is written, however it ends
 pub record Recovers (result : Result (Unit {0}) RecoverEnd) (old new : Seen) : Type 0 where
   pub ran : Ran 1352 (unfailed result) (λ i. old.leaves i ⊎ (home i ≡ home old.reads)) old new
   pub adds : (k : ℕ) (i : List ℕ) → new.left k i → old.left k i ⊎ ((k ≡ old.marks.answers) × (home i ≡ home old.reads))
+  pub shut : is_open old.reads ≡ false → WritesNothing old new
   pub done : IfOk result (λ _. Recovered old new)
+  pub gate : IfOk result (λ _. ClosedGate old new)
   pub foreign : IfForeign result (NoHome old new)
   pub no_memory : IfNoMemory result (Untouched (λ t. t) old new)

@@ -1,9 +1,11 @@
 -- The states of the journal, and what each call does to the chip.
 use Rattle.std.specs.Prelude.{◌≡◌, ◌⊎◌, ℕ, ◌+◌, ◌*◌, ◌≤◌, Bool, true, false, List, [], ◌∷◌, length, take, drop, Some}
+use Rattle.chip_port.specs.declared.chip.TheConstants.{CHIP_SIZE}
 use Rattle.chip_port.specs.Seen.{Seen}
-use Rattle.chip_port.specs.Rules.{put, Only}
+use Rattle.chip_port.specs.Rules.{put, Only, Torn}
 use Rattle.chip_port.specs.Runs.{Ran}
-use Rattle.undo_journal.specs.Home.{directory_in, home_in, has_magic, is_open, count_of, entries, put_back, home, kept}
+use Rattle.undo_journal.specs.declared.layout.TheConstants.{GATE, CLOSED, OLD, HOME, BLOCK}
+use Rattle.undo_journal.specs.Home.{directory_in, home_in, has_magic, is_open, gate_of, count_of, entries, put_back, home, block_of, kept}
 
 -- one of these blocks
 abbrev pub Has : ℕ → List ℕ → Type 0
@@ -21,10 +23,10 @@ pub record Lists (blocks directory : List ℕ) : Type 0 where
 
 -- the magic, a directory of these blocks, and these old blocks
 pub record Keeps (blocks old image : List ℕ) : Type 0 where
-  pub size : length image ≡ 346624
+  pub size : length image ≡ CHIP_SIZE
   pub front : has_magic image ≡ true
   pub directory : Lists blocks (directory_in image)
-  pub copies : take (256 * length blocks) (drop 2048 image) ≡ old
+  pub copies : take (BLOCK * length blocks) (drop OLD image) ≡ old
 
 -- Idle: the magic is there, the gate is closed, and there is one image, the content
 pub record IsIdle (s : Seen) : Type 0 where
@@ -71,15 +73,19 @@ pub record OpensGate (blocks before : List ℕ) (ok : Bool) (old new : Seen) : T
   pub opened : ok ≡ true → EachOf new.leaves (IsOpened blocks before)
   pub home_now : ok ≡ true → home_in new.reads ≡ before
 
--- a kept home block is written; whatever a cut leaves has the home before, whether the write succeeded or not
+-- a kept home block is written; whether the write succeeded or not, whatever a cut leaves has the home before, and the content is as before but for that block
 pub record WritesHome (blocks before : List ℕ) (block : ℕ) (octets : List ℕ) (ok : Bool) (old new : Seen) : Type 0 where
   pub ran : Ran 1 ok (λ i. home i ≡ Some before) old new
   pub opened : EachOf new.leaves (IsOpened blocks before)
-  pub home_now : ok ≡ true → home_in new.reads ≡ put (home_in old.reads) (256 * block) octets
-  pub content : ok ≡ true → new.reads ≡ put old.reads (174336 + 256 * block) octets
+  pub outside : Torn (HOME + BLOCK * block) BLOCK old.reads new.reads
+  pub others : (other : ℕ) → ¬ (other ≡ block) → block_of (home_in new.reads) other ≡ block_of (home_in old.reads) other
+  pub home_now : ok ≡ true → home_in new.reads ≡ put (home_in old.reads) (BLOCK * block) octets
+  pub content : ok ≡ true → new.reads ≡ put old.reads (HOME + BLOCK * block) octets
 
--- the gate is closed; whatever a cut leaves has the home before, or the one that was written
+-- the gate is closed; whatever a cut leaves has the home before, or the one that was written; a success leaves the gate octet 00, and the content else as before
 pub record ClosesGate (before : List ℕ) (ok : Bool) (old new : Seen) : Type 0 where
   pub ran : Ran 3 ok (λ i. (home i ≡ Some before) ⊎ (home i ≡ Some (home_in old.reads))) old new
   pub idle : ok ≡ true → IsIdle new
   pub home_now : ok ≡ true → home_in new.reads ≡ home_in old.reads
+  pub gate : ok ≡ true → gate_of new.reads ≡ CLOSED
+  pub content : ok ≡ true → new.reads ≡ put old.reads GATE (CLOSED ∷ [])

@@ -4,9 +4,10 @@ use Rattle.chip_port.specs.Seen.{Seen}
 use Rattle.chip_port.specs.Rules.{Only, Torn, put, Untouched}
 use Rattle.chip_port.specs.Runs.{Ran}
 use Rattle.undo_journal.specs.declared.recovery.RecoverEnd.{RecoverEnd}
-use Rattle.undo_journal.specs.Home.{home, home_in, has_magic, is_open, entries}
+use Rattle.undo_journal.specs.declared.layout.TheConstants.{CLOSED}
+use Rattle.undo_journal.specs.Home.{home, home_in, has_magic, is_open, gate_of, entries}
 use Rattle.undo_journal.specs.States.{IsRecorded, IsOpenOver}
-use Rattle.undo_journal.specs.Recover.{unfailed, IfForeign, IfNoMemory, NoHome, Recovered}
+use Rattle.undo_journal.specs.Recover.{unfailed, IfForeign, IfNoMemory, WritesNothing, NoHome, Recovered}
 
 -- an image that comes by this step from one that a cut may leave
 abbrev pub After : (List ℕ → List ℕ → Type 0) → (List ℕ → Type 0) → List ℕ → Type 0
@@ -45,6 +46,7 @@ pub record Found (opened : Bool) (old new : Seen) : Type 0 where
 
 pub record Begins (result : Result Bool RecoverEnd) (old new : Seen) : Type 0 where
   pub ran : Ran 2 (unfailed result) old.leaves old new
+  pub nothing : WritesNothing old new
   pub foreign : IfForeign result (NoHome old new)
   pub found : IfOk result (λ opened. Found opened old new)
   pub no_memory : IfNoMemory result (Untouched (λ t. t) old new)
@@ -66,3 +68,4 @@ pub record RollsBack (result : Result (Unit {0}) RecoverEnd) (old new : Seen) : 
   pub foreign : IfForeign result (NoHome old new)
   pub no_memory : IfNoMemory result ⊥
   pub done : IfOk result (λ _. Recovered old new)
+  pub gate : IfOk result (λ _. gate_of new.reads ≡ CLOSED)

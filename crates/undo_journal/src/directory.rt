@@ -20,7 +20,8 @@ pub(crate) fn count(directory: &[u8]) -> usize
 /// The block at a place of the list.
 pub(crate) fn entry(directory: &[u8], at: usize) -> u16
     requires { 4 + 2 * at ≤ length directory.now }
-    ensures { result ≡ 256 * get_or directory.now (2 + 2 * at) 0 + get_or directory.now (3 + 2 * at) 0 }
+    ensures { result ≡ 256 * get_or directory.now (2 + 2 * at) 0 + get_or directory.now
+        (3 + 2 * at) 0 }
 {
     256 * directory[2 + 2 * at] as u16 + directory[3 + 2 * at] as u16
 }

@@ -7,7 +7,7 @@ ghost use Rattle.undo_journal.specs.States.{IsIdle, TakesAtMost};
 ghost use Rattle.undo_journal.specs.Steps.{Copies, WritesDirectory, CopiesOld};
 
 use crate::directory::spell;
-use crate::layout::{BLOCK, DIRECTORY, HOME, OLD};
+use crate::layout::{BLOCK, DIRECTORY, home_at, old_at};
 use chip_port::{Chip, Failed};
 
 /// Copies one block from one place to another.
@@ -18,7 +18,8 @@ pub(crate) fn copy_block<C: Chip>(chip: &mut C, from: u64, to: u64) -> Result<()
     requires to { to + 256 ≤ 346624 }
     ensures cause { HasCause (C.sees chip.old) (C.sees chip.new) result }
     ensures spare { TakesAtMost 1 256 (C.sees chip.old) (C.sees chip.new) }
-    ensures told { IfTold (C.sees chip.old) (Copies from to (is_ok result) (C.sees chip.old) (C.sees chip.new)) }
+    ensures told { IfTold (C.sees chip.old)
+        (Copies from to (is_ok result) (C.sees chip.old) (C.sees chip.new)) }
 {
     let mut octets = [0; BLOCK];
     chip.read(from, &mut octets)?;
@@ -33,9 +34,11 @@ fn keep_block<C: Chip>(chip: &mut C, entry: usize, block: u16) -> Result<(), Fai
     requires block { block < 673 }
     ensures cause { HasCause (C.sees chip.old) (C.sees chip.new) result }
     ensures spare { TakesAtMost 1 256 (C.sees chip.old) (C.sees chip.new) }
-    ensures told { IfTold (C.sees chip.old) (Copies (174336 + 256 * block) (2048 + 256 * entry) (is_ok result) (C.sees chip.old) (C.sees chip.new)) }
+    ensures told { IfTold (C.sees chip.old)
+        (Copies (174336 + 256 * block) (2048 + 256 * entry) (is_ok result) (C.sees chip.old)
+        (C.sees chip.new)) }
 {
-    copy_block(chip, HOME + 256 * block as u64, OLD + 256 * entry as u64)
+    copy_block(chip, home_at(block), old_at(entry))
 }
 
 /// Writes the directory of these blocks.
@@ -45,7 +48,8 @@ fn write_directory<C: Chip>(chip: &mut C, blocks: &[u16]) -> Result<(), Failed>
     requires few { length blocks.now ≤ 673 }
     ensures cause { HasCause (C.sees chip.old) (C.sees chip.new) result }
     ensures spare { TakesAtMost 1 (2 + 2 * length blocks.now) (C.sees chip.old) (C.sees chip.new) }
-    ensures told { IfTold (C.sees chip.old) (WritesDirectory blocks.now (is_ok result) (C.sees chip.old) (C.sees chip.new)) }
+    ensures told { IfTold (C.sees chip.old)
+        (WritesDirectory blocks.now (is_ok result) (C.sees chip.old) (C.sees chip.new)) }
 {
     let directory = spell(blocks);
     chip.write_at(DIRECTORY, &directory[..2 + 2 * blocks.len()])
@@ -58,8 +62,10 @@ pub(crate) fn copy_old<C: Chip>(chip: &mut C, blocks: &[u16]) -> Result<(), Fail
     requires blocks { AreBlocks blocks.now }
     requires idle { IfTold (C.sees chip.old) (IsIdle (C.sees chip.old)) }
     ensures cause { HasCause (C.sees chip.old) (C.sees chip.new) result }
-    ensures spare { TakesAtMost (length blocks.now + 1) (258 * length blocks.now + 2) (C.sees chip.old) (C.sees chip.new) }
-    ensures told { IfTold (C.sees chip.old) (CopiesOld blocks.now (is_ok result) (C.sees chip.old) (C.sees chip.new)) }
+    ensures spare { TakesAtMost (length blocks.now + 1) (258 * length blocks.now + 2)
+        (C.sees chip.old) (C.sees chip.new) }
+    ensures told { IfTold (C.sees chip.old)
+        (CopiesOld blocks.now (is_ok result) (C.sees chip.old) (C.sees chip.new)) }
 {
     write_directory(chip, blocks)?;
     for (entry, block) in blocks.iter().enumerate() {

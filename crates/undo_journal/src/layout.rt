@@ -1,5 +1,7 @@
 //! What stands where on the chip.
 
+ghost use Rattle.std.specs.Prelude.{◌≡◌, ◌+◌, ◌*◌, ◌<◌};
+
 /// The octets at the front of each chip that holds a home.
 pub const MAGIC: [u8; 8] = *b"IOTCARD:";
 
@@ -29,3 +31,21 @@ pub const BLOCK: usize = 256;
 
 /// How many home blocks there are.
 pub const BLOCKS: usize = 673;
+
+/// How many octets the home has.
+pub const HOME_SIZE: usize = 172_288;
+
+/// The place of a home block.
+pub fn home_at(block: u16) -> u64
+    ensures { result ≡ HOME + BLOCK * block }
+{
+    HOME + BLOCK as u64 * block as u64
+}
+
+/// The place of an old block, by its place in the directory.
+pub(crate) fn old_at(entry: usize) -> u64
+    requires { entry < BLOCKS }
+    ensures { result ≡ OLD + BLOCK * entry }
+{
+    OLD + (BLOCK * entry) as u64
+}

@@ -1,6 +1,8 @@
-//! Recovery: whatever a cut left, the chip is brought to where it is idle, with the home that it had.
+//! Recovery: whatever a cut left, the chip is brought to where it is idle, with the home that it
+//! had.
 
-ghost use Rattle.std.specs.Prelude.{◌≡◌, ◌≤◌, ◌<◌, ◌+◌, ◌*◌, length, is_ok, OnOk, IfOk, List, ℕ, true};
+ghost use Rattle.std.specs.Prelude.{◌≡◌, ◌≤◌, ◌<◌, ◌+◌, ◌*◌, length, is_ok, OnOk, IfOk, List, ℕ};
+ghost use Rattle.std.specs.Prelude.{true};
 ghost use Rattle.chip_port.specs.Rules.{IfTold, HasCause};
 ghost use Rattle.undo_journal.specs.Home.{same_octets, magic, is_well_formed, entries};
 ghost use Rattle.undo_journal.specs.States.{EachOf, IsIdle, IsOpenOver, TakesAtMost};
@@ -11,7 +13,7 @@ ghost use Rattle.undo_journal.specs.declared.recovery.RecoverEnd.TheVariants.{Fa
 use crate::directory::{count, entry, is_fit};
 use crate::gate::close;
 use crate::keep::copy_block;
-use crate::layout::{DIRECTORY, DIRECTORY_SIZE, HOME, MAGIC, OLD, OPEN};
+use crate::layout::{DIRECTORY, DIRECTORY_SIZE, MAGIC, OPEN, home_at, old_at};
 use chip_port::Chip;
 
 /// How a recovery can end without an idle chip.
@@ -49,7 +51,8 @@ fn is_magic(front: &[u8]) -> bool
 /// Makes room, syncs, looks for the magic, and tells whether the gate is open.
 fn begin<C: Chip>(chip: &mut C) -> Result<bool, RecoverEnd>
     ensures cause { HasCauseOfEnd (C.sees chip.old) (C.sees chip.new) result }
-    ensures room { OnOk result ((677 ≤ (C.sees chip.new).spare.calls) × (172289 ≤ (C.sees chip.new).spare.octets)) }
+    ensures room { OnOk result ((677 ≤ (C.sees chip.new).spare.calls)
+        × (172289 ≤ (C.sees chip.new).spare.octets)) }
     ensures told { IfTold (C.sees chip.old) (Begins result (C.sees chip.old) (C.sees chip.new)) }
 {
     if chip.prepare(CALLS, OCTETS).is_err() {
@@ -72,9 +75,11 @@ fn restore<C: Chip>(chip: &mut C, entry: usize, block: u16) -> Result<(), chip_p
     requires block { block < 673 }
     ensures cause { HasCause (C.sees chip.old) (C.sees chip.new) result }
     ensures spare { TakesAtMost 1 256 (C.sees chip.old) (C.sees chip.new) }
-    ensures told { IfTold (C.sees chip.old) (Copies (2048 + 256 * entry) (174336 + 256 * block) (is_ok result) (C.sees chip.old) (C.sees chip.new)) }
+    ensures told { IfTold (C.sees chip.old)
+        (Copies (2048 + 256 * entry) (174336 + 256 * block) (is_ok result) (C.sees chip.old)
+        (C.sees chip.new)) }
 {
-    copy_block(chip, OLD + 256 * entry as u64, HOME + 256 * block as u64)
+    copy_block(chip, old_at(entry), home_at(block))
 }
 
 /// Puts back each old block that the directory lists.
@@ -85,7 +90,10 @@ fn put_back<C: Chip>(chip: &mut C, directory: &[u8]) -> Result<(), chip_port::Fa
     requires fit { is_well_formed directory.now ≡ true }
     ensures cause { HasCause (C.sees chip.old) (C.sees chip.new) result }
     ensures spare { TakesAtMost 673 172288 (C.sees chip.old) (C.sees chip.new) }
-    ensures told { IfTold (C.sees chip.old) ((copies before : List ℕ) → EachOf (C.sees chip.old).leaves (IsOpenOver (entries directory.now) copies before) → PutsBack directory.now copies before (is_ok result) (C.sees chip.old) (C.sees chip.new)) }
+    ensures told { IfTold (C.sees chip.old)
+        ((copies before : List ℕ) → EachOf (C.sees chip.old).leaves
+        (IsOpenOver (entries directory.now) copies before) → PutsBack directory.now copies before
+        (is_ok result) (C.sees chip.old) (C.sees chip.new)) }
 {
     for at in 0..count(directory) {
         restore(chip, at, entry(directory, at))?;

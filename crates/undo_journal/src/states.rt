@@ -6,11 +6,13 @@
 ghost use Rattle.std.specs.Prelude.{◌≡◌, ◌≤◌, ◌+◌, ◌*◌, List, ℕ, is_ok, length, IfOk, OnOk};
 ghost use Rattle.chip_port.specs.Rules.{HasCause, IfTold};
 ghost use Rattle.undo_journal.specs.Home.{AreBlocks};
-ghost use Rattle.undo_journal.specs.States.{Has, EachOf, IsIdle, IsRecorded, IsOpened, RecordedOn, OpenedOn, TakesAtMost, KeepsOld, OpensGate, WritesHome, ClosesGate};
+ghost use Rattle.undo_journal.specs.States.{Has, EachOf, IsIdle, IsRecorded, IsOpened, RecordedOn};
+ghost use Rattle.undo_journal.specs.States.{OpenedOn, TakesAtMost, KeepsOld, OpensGate, WritesHome};
+ghost use Rattle.undo_journal.specs.States.{ClosesGate};
 
 use crate::gate::{close, raise};
 use crate::keep::copy_old;
-use crate::layout::HOME;
+use crate::layout::home_at;
 use chip_port::{Chip, Failed};
 use iot_bytes::Row;
 use std::marker::Model;
@@ -23,10 +25,13 @@ pub fn keep_old<C: Chip>(chip: &mut C, blocks: Row<u16>) -> Result<Recorded, Fai
     requires blocks { AreBlocks blocks }
     requires idle { IfTold (C.sees chip.old) (IsIdle (C.sees chip.old)) }
     ensures cause { HasCause (C.sees chip.old) (C.sees chip.new) result }
-    ensures spare { TakesAtMost (length blocks + 2) (258 * length blocks + 2) (C.sees chip.old) (C.sees chip.new) }
+    ensures spare { TakesAtMost (length blocks + 2) (258 * length blocks + 2) (C.sees chip.old)
+        (C.sees chip.new) }
     ensures same { IfOk result (λ recorded. recorded ≡ blocks) }
-    ensures recorded { IfOk result (λ recorded. IfTold (C.sees chip.new) (RecordedOn recorded (C.sees chip.new))) }
-    ensures told { IfTold (C.sees chip.old) (KeepsOld blocks (is_ok result) (C.sees chip.old) (C.sees chip.new)) }
+    ensures recorded { IfOk result
+        (λ recorded. IfTold (C.sees chip.new) (RecordedOn recorded (C.sees chip.new))) }
+    ensures told { IfTold (C.sees chip.old)
+        (KeepsOld blocks (is_ok result) (C.sees chip.old) (C.sees chip.new)) }
 {
     copy_old(chip, blocks.as_slice())?;
     match chip.sync() {
@@ -61,8 +66,11 @@ impl Recorded {
         ensures cause { HasCause (C.sees chip.old) (C.sees chip.new) result }
         ensures spare { TakesAtMost 2 1 (C.sees chip.old) (C.sees chip.new) }
         ensures same { IfOk result (λ opened. opened ≡ self) }
-        ensures opened { IfOk result (λ opened. IfTold (C.sees chip.new) (OpenedOn opened (C.sees chip.new))) }
-        ensures told { IfTold (C.sees chip.old) ((before : List ℕ) → EachOf (C.sees chip.old).leaves (IsRecorded self before) → OpensGate self before (is_ok result) (C.sees chip.old) (C.sees chip.new)) }
+        ensures opened { IfOk result (λ opened. IfTold (C.sees chip.new)
+            (OpenedOn opened (C.sees chip.new))) }
+        ensures told { IfTold (C.sees chip.old)
+            ((before : List ℕ) → EachOf (C.sees chip.old).leaves (IsRecorded self before)
+            → OpensGate self before (is_ok result) (C.sees chip.old) (C.sees chip.new)) }
     {
         let blocks = self.blocks;
         raise(chip)?;
@@ -88,6 +96,13 @@ impl Model for Opened {
 }
 
 impl Opened {
+    /// The blocks that were kept, which may be written, in rising order.
+    pub fn blocks(&self) -> &[u16]
+        ensures { result.now ≡ self.now }
+    {
+        self.blocks.as_slice()
+    }
+
     /// Writes a home block that was kept. After a failure what the block reads isn't known.
     pub fn write_home<C: Chip>(
         &self,
@@ -102,10 +117,13 @@ impl Opened {
         ensures cause { HasCause (C.sees chip.old) (C.sees chip.new) result }
         ensures spare { TakesAtMost 1 256 (C.sees chip.old) (C.sees chip.new) }
         ensures opened { IfTold (C.sees chip.new) (OpenedOn self.now (C.sees chip.new)) }
-        ensures told { IfTold (C.sees chip.old) ((before : List ℕ) → EachOf (C.sees chip.old).leaves (IsOpened self.now before) → WritesHome self.now before block bytes.now (is_ok result) (C.sees chip.old) (C.sees chip.new)) }
+        ensures told { IfTold (C.sees chip.old)
+            ((before : List ℕ) → EachOf (C.sees chip.old).leaves (IsOpened self.now before)
+            → WritesHome self.now before block bytes.now (is_ok result) (C.sees chip.old)
+            (C.sees chip.new)) }
     {
         let _blocks = &self.blocks;
-        chip.write_at(HOME + 256 * block as u64, bytes)
+        chip.write_at(home_at(block), bytes)
     }
 
     /// Closes the gate: from now on what was written is the home.
@@ -116,7 +134,9 @@ impl Opened {
         ensures cause { HasCause (C.sees chip.old) (C.sees chip.new) result }
         ensures spare { TakesAtMost 3 1 (C.sees chip.old) (C.sees chip.new) }
         ensures idle { OnOk result (IfTold (C.sees chip.new) (IsIdle (C.sees chip.new))) }
-        ensures told { IfTold (C.sees chip.old) ((before : List ℕ) → EachOf (C.sees chip.old).leaves (IsOpened self before) → ClosesGate before (is_ok result) (C.sees chip.old) (C.sees chip.new)) }
+        ensures told { IfTold (C.sees chip.old)
+            ((before : List ℕ) → EachOf (C.sees chip.old).leaves (IsOpened self before)
+            → ClosesGate before (is_ok result) (C.sees chip.old) (C.sees chip.new)) }
     {
         let _blocks = &self.blocks;
         close(chip)

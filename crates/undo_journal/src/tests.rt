@@ -1,5 +1,5 @@
-//! What no clause says: that calls succeed where there is enough memory, and what a unit that is cut
-//! leaves on a chip in memory.
+//! What no clause says: that calls succeed where there is enough memory, and what a unit that is
+//! cut leaves on a chip in memory.
 
 ghost use Rattle.std.specs.Prelude.{◌≡◌, ◌+◌, ◌≤◌, length, is_ok, OnOk, IfOk};
 ghost use Rattle.chip_port.specs.Rules.{HasCause, IfTold};
@@ -43,7 +43,8 @@ fn write<C: Chip>(chip: &mut C, at: u64, octets: &[u8]) -> Result<(), &'static s
 
 // Recovers a chip, makes room for a unit, and plans a cut.
 fn ready<B: Bench>(bench: &mut B, calls: u32, tear: Tear) -> Result<(), &'static str>
-    ensures room { OnOk result ((682 ≤ (B.sees bench.new).spare.calls) × (174150 ≤ (B.sees bench.new).spare.octets)) }
+    ensures room { OnOk result ((682 ≤ (B.sees bench.new).spare.calls)
+        × (174150 ≤ (B.sees bench.new).spare.octets)) }
     ensures idle { OnOk result (IfTold (B.sees bench.new) (IsIdle (B.sees bench.new))) }
 {
     let Ok(()) = recover(bench) else {
@@ -71,7 +72,8 @@ fn unit<C: Chip>(
     requires idle { IfTold (C.sees chip.old) (IsIdle (C.sees chip.old)) }
     ensures cause { HasCause (C.sees chip.old) (C.sees chip.new) result }
     ensures spare { TakesAtMost 682 174150 (C.sees chip.old) (C.sees chip.new) }
-    ensures told { IfTold (C.sees chip.old) (WritesTwo first.now last.now (is_ok result) (C.sees chip.old) (C.sees chip.new)) }
+    ensures told { IfTold (C.sees chip.old)
+        (WritesTwo first.now last.now (is_ok result) (C.sees chip.old) (C.sees chip.new)) }
 {
     let recorded = keep_old(chip, blocks)?;
     let opened = recorded.open_gate(chip)?;

@@ -10,6 +10,8 @@ returns-in-Err-clause-told g c = λ told blocks old before are all.
       ran = ran_most (omega arith) (home_synced are all told y.cause y.told);
       idle = λ ok. absurd (cc ok);
       home_now = λ ok. absurd (cc ok);
+      gate = λ ok. absurd (cc ok);
+      content = λ ok. absurd (cc ok);
     }
 
 pub returns-in_err-write_at-in-Ok-clause-told : goal.returns-in_err-write_at-in-Ok-clause-told
@@ -22,6 +24,8 @@ returns-in_err-write_at-in-Ok-clause-told g c = λ told blocks old before are al
       ran = ran_most (omega arith) (ran_write (home_synced are all told y.cause y.told) w.cause w.told (gate_torn blocks old before s0.reads _ are now (y.told told).done));
       idle = λ ok. absurd (cc ok);
       home_now = λ ok. absurd (cc ok);
+      gate = λ ok. absurd (cc ok);
+      content = λ ok. absurd (cc ok);
     })
 
 -- The last call is left to `assumption`, so that an edit of it meets the clauses.

@@ -2,7 +2,8 @@ use Rattle.std.proofs.Common.{arith, ◌≡◌, ◌∙◌}
 use Rattle.std.specs.Prelude.{Some}
 use Rattle.chip_port.proofs.Runs.{ran_none, ran_write, ran_sync, ran_most, not_ok}
 use Rattle.undo_journal.specs.Home.{home}
-use Rattle.undo_journal.proofs.Torn.{torn_none, gate_opened}
+use Rattle.chip_port.specs.PastLaws.{torn_same}
+use Rattle.undo_journal.proofs.Torn.{gate_opened}
 use Rattle.undo_journal.proofs.Gates.{opening, put_gate}
 use Rattle.undo_journal.proofs.Keeping.{gate_raised}
 use Rattle.undo_journal.proofs.gate.raise.Goals as goal
@@ -11,7 +12,7 @@ pub returns-in_err-write_at-clause-told : goal.returns-in_err-write_at-clause-to
 returns-in_err-write_at-clause-told g c = λ told blocks before are all.
     let s0 = g.C.Chip.sees c.args.chip.now in
     let w = c.in_err-write_at.ensures in
-    let start = ran_none (λ i. home i ≡ Some before) s0 told (λ i was. opening blocks before i i are (all i was) (torn_none 256 1 i)) in
+    let start = ran_none (λ i. home i ≡ Some before) s0 told (λ i was. opening blocks before i i are (all i was) (torn_same 256 1 i)) in
     rw (not_ok _ c.from_residual.ensures.0) (record {
       ran = ran_most (omega arith) (ran_write start w.cause w.told (λ d i was torn. opening blocks before d i are (all d was) torn));
       opened = λ ok. absurd (cc ok);
@@ -23,7 +24,7 @@ returns-clause-told g c = λ told blocks before are all.
     let s0 = g.C.Chip.sees c.args.chip.now in
     let w = c.in_ok-write_at.ensures in
     let y = c.sync.ensures in
-    let start = ran_none (λ i. home i ≡ Some before) s0 told (λ i was. opening blocks before i i are (all i was) (torn_none 256 1 i)) in
+    let start = ran_none (λ i. home i ≡ Some before) s0 told (λ i was. opening blocks before i i are (all i was) (torn_same 256 1 i)) in
     let rec = all s0.reads (g.met.C.Chip.sound c.args.chip.now told).reads_now in
     record {
       ran = ran_sync (ran_write start w.cause w.told (λ d i was torn. opening blocks before d i are (all d was) torn)) y.cause y.told;

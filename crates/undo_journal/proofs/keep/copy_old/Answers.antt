@@ -1,9 +1,9 @@
 use Rattle.std.proofs.Common.{arith, true, false, ◌≡◌, ℕ, ◌+◌, ◌*◌, ◌<◌, ◌∙◌, ap, refl, List, length, take, drop}
 use Rattle.chip_port.specs.Rules.{Torn}
 use Rattle.chip_port.proofs.Runs.{ran_none, ran_then, ran_most, not_ok}
+use Rattle.chip_port.proofs.Apart.{torn_back}
 use Rattle.undo_journal.specs.Steps.{directory_of}
 use Rattle.undo_journal.proofs.Torn.{none_only, torn_inside}
-use Rattle.undo_journal.proofs.Gates.{torn_back}
 use Rattle.undo_journal.proofs.Spelled.{length-directory}
 use Rattle.undo_journal.proofs.Listing.{below_at}
 use Rattle.undo_journal.proofs.Keeping.{region_before, region_next, kept_one, recorded_all}

@@ -15,7 +15,7 @@ returns-in_err-read-clause-told g c = λ told.
     let f = c.requires.found told in
     let r = c.in_err-read.ensures in
     let p = err_from_is_err_and c.from_residual.result c.from_residual.ensures.1 in
-    rw (p.1, p.2) (record { ran = ran_most (omega arith) (ran_read (ran_none (λ i. home i ≡ home s0.reads) s0 told (λ i was. ap home (f.settled i was))) r.cause r.told); foreign = tt; no_memory = tt; done = tt })
+    rw (p.1, p.2) (record { ran = ran_most (omega arith) (ran_read (ran_none (λ i. home i ≡ home s0.reads) s0 told (λ i was. ap home (f.settled i was))) r.cause r.told); foreign = tt; no_memory = tt; done = tt; gate = tt })
 
 pub returns-then-not-is_fit-clause-told : goal.returns-then-not-is_fit-clause-told
 returns-then-not-is_fit-clause-told g c = λ told.
@@ -30,6 +30,7 @@ returns-then-not-is_fit-clause-told g c = λ told.
       };
       no_memory = tt;
       done = tt;
+      gate = tt;
     }
 
 pub returns-in_err-put_back-clause-told : goal.returns-in_err-put_back-clause-told
@@ -42,7 +43,7 @@ returns-in_err-put_back-clause-told g c = λ told.
     let found = found_home D s0 (g.C.Chip.sees c.read.new.self) f (g.met.C.Chip.sound c.args.chip.now told) (r.told told).done (sym c.is_fit.ensures ∙ c.if-not-is_fit.false) (λ i now. ((r.told told).keeps.leaves i).1 now) in
     let put = c.in_err-put_back.ensures.told read.told _ _ found.1 in
     let p = err_from_is_err_and c.from_residual-in_err-put_back.result c.from_residual-in_err-put_back.ensures.1 in
-    rw (p.1, p.2) (record { ran = ran_most (omega arith) (ran_then read put.ran (λ i now. opened_home (entries D) _ _ i found.0 now ∙ sym found.2)); foreign = tt; no_memory = tt; done = tt })
+    rw (p.1, p.2) (record { ran = ran_most (omega arith) (ran_then read put.ran (λ i now. opened_home (entries D) _ _ i found.0 now ∙ sym found.2)); foreign = tt; no_memory = tt; done = tt; gate = tt })
 
 pub returns-in_err-close-clause-told : goal.returns-in_err-close-clause-told
 returns-in_err-close-clause-told g c = λ told.
@@ -61,6 +62,7 @@ returns-in_err-close-clause-told g c = λ told.
       foreign = tt;
       no_memory = tt;
       done = tt;
+      gate = tt;
     })
 
 pub returns-clause-told : goal.returns-clause-told
@@ -79,6 +81,7 @@ returns-clause-told g c = λ told.
           (λ i either. ⊎_elim (λ e. e ∙ sym found.2) (λ e. e ∙ ap (λ (l : List ℕ). Some l) (put.home_now refl) ∙ sym found.2) either);
       foreign = tt;
       no_memory = tt;
+      gate = closed.gate refl;
       done = record {
         idle = closed.idle refl;
         home_was = found.2 ∙ ap (λ (l : List ℕ). Some l) (sym same);
