@@ -55,6 +55,14 @@ impl<T> Reserve<T> {
         Reserve { inner }
     }
 
+    /// The items as a `Vec`, with the list's memory.
+    pub(crate) fn into_vec(self) -> Vec<T>
+        ensures { result.items ≡ self.items }
+    {
+        let Reserve { inner } = self;
+        inner
+    }
+
     // The allocator that the list keeps.
     pub(crate) fn allocator(&self) -> Global {
         *self.inner.allocator()

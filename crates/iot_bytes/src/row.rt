@@ -67,6 +67,13 @@ impl<T> Row<T> {
         held
     }
 
+    /// The items as a `Vec`, with the list's memory, to go over them by value.
+    pub fn into_vec(self) -> Vec<T>
+        ensures { result.items ≡ self }
+    {
+        self.into_reserve().into_vec()
+    }
+
     /// How many items the list has.
     pub fn len(&self) -> usize
         ensures { result ≡ length self.now }
