@@ -1,0 +1,26 @@
+//! Appending parts of a text. Where memory runs out, a front of the part may be left behind what was
+//! there before.
+
+ghost use Rattle.std.specs.Prelude.{◌≡◌, ◌++◌, length, take, OnOk, OnErr};
+ghost use Rattle.std.specs.Fmt.{decimal};
+ghost use Rattle.trace_text.specs.Texts.{mark_text};
+
+use iot_bytes::{NoMemory, Row, put_decimal};
+
+/// Appends a label and a number behind it.
+#[tactic(auto, using(crate::proofs::Appending::appended))]
+pub(crate) fn put_number(out: &mut Row<u8>, label: &[u8], n: u64) -> Result<(), NoMemory>
+    ensures ok { OnOk result (out.new ≡ out.old ++ (label.now ++ decimal n)) }
+    ensures err { OnErr result (take (length out.old) out.new ≡ out.old) }
+{
+    out.append(label)?;
+    put_decimal(out, n)
+}
+
+/// Appends the mark of a result that was rolled back.
+pub(crate) fn put_mark(out: &mut Row<u8>, rolled: bool) -> Result<(), NoMemory>
+    ensures ok { OnOk result (out.new ≡ out.old ++ mark_text rolled) }
+    ensures err { OnErr result (take (length out.old) out.new ≡ out.old) }
+{
+    if rolled { out.append(b"r") } else { Ok(()) }
+}
