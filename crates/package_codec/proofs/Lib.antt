@@ -1,11 +1,6 @@
-pub mod Sizes
-pub mod Operations
 pub mod Psmos
 pub mod Ecos
 pub mod Bodies
 pub mod Packages
-pub mod Giving
-pub mod Appending
-pub mod OneSpelling
 pub mod Replying
 pub mod InRange

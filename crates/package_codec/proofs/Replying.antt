@@ -1,23 +1,22 @@
 -- After a command in range a legal history is legal, and the reply is in range.
-use Rattle.std.proofs.Common.{◌≡◌, ◌≢◌, ℕ, ◌+◌, ◌≤◌, ◌<◌, Bool, true, false, not, ◌&&◌, cond, List, [], ◌∷◌, ◌++◌, length, map, arith, refl, ◌∙◌, ap, sym, subst, Option, None, Some, Result, Ok, Err}
+use Rattle.std.proofs.Common.{◌≡◌, ◌≢◌, ℕ, ◌≤◌, Bool, true, false, not, ◌&&◌, cond, List, [], ◌∷◌, ◌++◌, length, map, arith, refl, ◌∙◌, ap, sym, subst, Option, None, Some, Result, Ok, Err}
 use Rattle.std.specs.Prelude.{nat_le, ◌==◌, IsSome}
 use Rattle.std.specs.Option.{option_or}
 use Rattle.std.specs.List.{AllPass}
-use Rattle.std.proofs.lemmas.Bool.{cond_both, leb-true, leb-false, eqb-true, eqb-false, not-false, not-true, and_parts}
+use Rattle.std.proofs.lemmas.Bool.{cond_both, eqb-true, eqb-false, not-false, and_parts}
 use Rattle.sgp_values.specs.Ranges.{is_octet}
-use Rattle.small_card.specs.Cards.{SmallCard, Managers, Results}
+use Rattle.small_card.specs.Cards.{Managers}
 use Rattle.small_card.specs.Checks.{refused, has_association, has_room, eim_refusal, later_refusal, value_refusal}
 use Rattle.small_card.specs.Histories.{History, card_of, former_of, full_of, kept, with_unit}
 use Rattle.small_card.specs.Laws.{IsCounted}
-use Rattle.small_card.specs.Legal.{IsLegal, IsLegalFrom, IsOnce, May}
-use Rattle.small_card.specs.Lists.{same, Every, EveryPair}
+use Rattle.small_card.specs.Legal.{IsLegal, IsLegalFrom, May}
+use Rattle.small_card.specs.Lists.{same, Every}
 use Rattle.small_card.specs.Managers.{is_eim, has_eim, line_of, is_empty_list, last_association, do_eco}
 use Rattle.small_card.specs.Packages.{result_of, with_result}
-use Rattle.small_card.specs.Ranges.{IsNumber, IsSigned, IsPackage, IsResult, IsRefused, IsCommand, IsAnswer, IsResultList, IsEimList, IsItem, IsEco, IsBefore, greatest_counter}
+use Rattle.small_card.specs.Ranges.{IsNumber, IsSigned, IsPackage, IsResult, IsRefused, IsCommand, IsAnswer, IsResultList, IsEimList, IsItem, IsEco, greatest_counter}
 use Rattle.small_card.specs.Steps.{step_full}
 use Rattle.small_card.specs.Units.{CardUnit, initial, load, rollback, remove, is_pending, after_unit, loaded}
-use Rattle.small_card.specs.Valid.{IsValid, IsValidCard, IsEntry, IsPending, AreManagers, AreResults, IsArmed}
-use Rattle.small_card.specs.declared.types.Answer.{Answer}
+use Rattle.small_card.specs.Valid.{IsValid, IsValidCard, IsEntry, IsPending}
 use Rattle.small_card.specs.declared.types.Answer.TheVariants as answer
 use Rattle.small_card.specs.declared.types.Armed.{Armed}
 use Rattle.small_card.specs.declared.types.Command.{Command}
@@ -25,10 +24,8 @@ use Rattle.small_card.specs.declared.types.Command.TheVariants as command
 use Rattle.small_card.specs.declared.types.Eco.TheVariants as eco
 use Rattle.small_card.specs.declared.types.EimEntry.{EimEntry}
 use Rattle.small_card.specs.declared.types.Package.{Package}
-use Rattle.small_card.specs.declared.types.PackageResult.{PackageResult}
 use Rattle.small_card.specs.declared.types.Refused.{Refused}
 use Rattle.small_card.specs.declared.types.Signed.{Signed}
-use Rattle.small_card.proofs.Accepting.{legal_once}
 use Rattle.small_card.proofs.Counting.{legal_counted}
 use Rattle.small_card.proofs.ListLemmas.{same_yes, any_every, every_both, every_mono}
 use Rattle.small_card.proofs.Looking.{full_more}

@@ -1,175 +1,140 @@
 //! Reading the operations of a package.
 
-ghost use Rattle.std.specs.Prelude.{◌≡◌};
 ghost use Rattle.sgp_der.specs.Fields.{Gives};
-ghost use Rattle.package_codec.specs.Reading.{enable_of, disable_of, delete_of, list_profiles_of, psmo_of, add_of, update_of, drop_of, list_eims_of, eco_of, psmos_of, ecos_of, body_of, body_at};
+ghost use Rattle.package_codec.specs.Reading.{enable_of, disable_of, delete_of, list_profiles_of};
+ghost use Rattle.package_codec.specs.Reading.{psmo_of, add_of, update_of, drop_of, list_eims_of};
+ghost use Rattle.package_codec.specs.Reading.{eco_of, psmos_of, ecos_of, body_of, body_at};
 
-use crate::tags::{
-    ADD, ADDRESS, DELETE_EIM, DELETE_PROFILE, DISABLE, ECOS, ENABLE, ICCID, KEY, LIST_EIMS,
-    LIST_PROFILES, MOST_OPERATIONS, PSMOS, ROLLBACK, TARGET, UPDATE,
-};
+use crate::tags::{eim, operations, profile};
 use iot_bytes::ReadError;
-use sgp_der::next;
-use sgp_fields::{Content, Listed, last, list, optional, value};
+use sgp_fields::{Fields, Listed, list, read_config, whole};
 use sgp_values::{Address, EimId, Iccid, Key};
+use small_card::limits::MOST_OPERATIONS;
 use small_card::{Body, Eco, Psmo};
 use std::alloc::Global;
 
 #[tactic(auto, unfolding(crate::specs::Reading::enable_of))]
-fn enable(content: &[u8]) -> Option<Psmo>
-    ensures { result ≡ enable_of content.now }
+fn enable(content: &[u8]) -> Result<Psmo, ReadError>
+    ensures { Gives result (enable_of content.now) }
 {
-    let Some((iccid, rest)) = value::<Iccid>(content, ICCID) else {
-        return None;
-    };
-    let Some((mark, rest)) = optional::<()>(rest, ROLLBACK) else {
-        return None;
-    };
-    if !rest.is_empty() {
-        return None;
-    }
-    Some(Psmo::Enable {
-        iccid,
-        rollback: mark.is_some(),
-    })
+    let mut fields = Fields::of(content);
+    let iccid = fields.value::<Iccid>(profile::ICCID)?;
+    let rollback = fields.last_mark(profile::ROLLBACK)?;
+    Ok(Psmo::Enable { iccid, rollback })
 }
 
 #[tactic(auto, unfolding(crate::specs::Reading::disable_of))]
-fn disable(content: &[u8]) -> Option<Psmo>
-    ensures { result ≡ disable_of content.now }
+fn disable(content: &[u8]) -> Result<Psmo, ReadError>
+    ensures { Gives result (disable_of content.now) }
 {
-    let iccid = last::<Iccid>(content, ICCID)?;
-    Some(Psmo::Disable { iccid })
+    let iccid = Fields::of(content).last::<Iccid>(profile::ICCID)?;
+    Ok(Psmo::Disable { iccid })
 }
 
 #[tactic(auto, unfolding(crate::specs::Reading::delete_of))]
-fn delete_profile(content: &[u8]) -> Option<Psmo>
-    ensures { result ≡ delete_of content.now }
+fn delete_profile(content: &[u8]) -> Result<Psmo, ReadError>
+    ensures { Gives result (delete_of content.now) }
 {
-    let iccid = last::<Iccid>(content, ICCID)?;
-    Some(Psmo::Delete { iccid })
+    let iccid = Fields::of(content).last::<Iccid>(profile::ICCID)?;
+    Ok(Psmo::Delete { iccid })
 }
 
 #[tactic(auto, unfolding(crate::specs::Reading::list_profiles_of))]
-fn list_profiles(content: &[u8]) -> Option<Psmo>
-    ensures { result ≡ list_profiles_of content.now }
+fn list_profiles(content: &[u8]) -> Result<Psmo, ReadError>
+    ensures { Gives result (list_profiles_of content.now) }
 {
-    let _mark = <() as Content>::of_content(content)?;
-    Some(Psmo::List)
-}
-
-#[tactic(auto, unfolding(crate::specs::Reading::psmo_of))]
-fn psmo(tag: u8, content: &[u8]) -> Option<Psmo>
-    ensures { result ≡ psmo_of tag content.now }
-{
-    match tag {
-        ENABLE => enable(content),
-        DISABLE => disable(content),
-        DELETE_PROFILE => delete_profile(content),
-        LIST_PROFILES => list_profiles(content),
-        _ => None,
-    }
+    Fields::of(content).end()?;
+    Ok(Psmo::List)
 }
 
 #[tactic(auto, unfolding(crate::specs::Reading::add_of))]
-fn add(content: &[u8]) -> Option<Eco>
-    ensures { result ≡ add_of content.now }
+fn add(content: &[u8]) -> Result<Eco, ReadError>
+    ensures { Gives result (add_of content.now) }
 {
-    let Some((id, rest)) = value::<EimId>(content, TARGET) else {
-        return None;
-    };
-    let Some((address, rest)) = value::<Address>(rest, ADDRESS) else {
-        return None;
-    };
-    let key = last::<Key>(rest, KEY)?;
-    Some(Eco::Add { id, address, key })
+    let config = read_config(content)?;
+    Ok(Eco::Add {
+        id: config.id,
+        address: config.address,
+        key: config.key,
+    })
 }
 
 #[tactic(auto, unfolding(crate::specs::Reading::update_of))]
-fn update(content: &[u8]) -> Option<Eco>
-    ensures { result ≡ update_of content.now }
+fn update(content: &[u8]) -> Result<Eco, ReadError>
+    ensures { Gives result (update_of content.now) }
 {
-    let Some((id, rest)) = value::<EimId>(content, TARGET) else {
-        return None;
-    };
-    let Some((address, rest)) = optional::<Address>(rest, ADDRESS) else {
-        return None;
-    };
-    let Some((key, rest)) = optional::<Key>(rest, KEY) else {
-        return None;
-    };
-    if !rest.is_empty() {
-        return None;
-    }
-    Some(Eco::Update { id, address, key })
+    let mut fields = Fields::of(content);
+    let id = fields.value::<EimId>(eim::ID)?;
+    let address = fields.optional::<Address>(eim::ADDRESS)?;
+    let key = fields.optional::<Key>(eim::KEY)?;
+    fields.end()?;
+    Ok(Eco::Update { id, address, key })
 }
 
 #[tactic(auto, unfolding(crate::specs::Reading::drop_of))]
-fn delete_eim(content: &[u8]) -> Option<Eco>
-    ensures { result ≡ drop_of content.now }
+fn delete_eim(content: &[u8]) -> Result<Eco, ReadError>
+    ensures { Gives result (drop_of content.now) }
 {
-    let id = last::<EimId>(content, TARGET)?;
-    Some(Eco::Delete { id })
+    let id = Fields::of(content).last::<EimId>(eim::ID)?;
+    Ok(Eco::Delete { id })
 }
 
 #[tactic(auto, unfolding(crate::specs::Reading::list_eims_of))]
-fn list_eims(content: &[u8]) -> Option<Eco>
-    ensures { result ≡ list_eims_of content.now }
+fn list_eims(content: &[u8]) -> Result<Eco, ReadError>
+    ensures { Gives result (list_eims_of content.now) }
 {
-    let _mark = <() as Content>::of_content(content)?;
-    Some(Eco::List)
+    Fields::of(content).end()?;
+    Ok(Eco::List)
 }
 
-#[tactic(auto, unfolding(crate::specs::Reading::eco_of))]
-fn eco(tag: u8, content: &[u8]) -> Option<Eco>
-    ensures { result ≡ eco_of tag content.now }
-{
-    match tag {
-        ADD => add(content),
-        UPDATE => update(content),
-        DELETE_EIM => delete_eim(content),
-        LIST_EIMS => list_eims(content),
-        _ => None,
-    }
-}
+/// The operations on profiles, one element each.
+pub(crate) struct PsmoEntry;
 
-/// A list of operations on profiles.
-struct PsmoEntries;
-
-impl Listed<Psmo> for PsmoEntries {
+impl Listed<Psmo> for PsmoEntry {
     ghost use Rattle.package_codec.specs.Reading.{psmo_of};
 
     ghost entry_of = { psmo_of };
 
+    #[tactic(auto, unfolding(crate::specs::Reading::psmo_of))]
     fn read(_alloc: Global, tag: u8, content: &[u8]) -> Result<Psmo, ReadError> {
-        let Some(op) = psmo(tag, content) else {
-            return Err(ReadError::Malformed);
-        };
-        Ok(op)
+        match tag {
+            profile::ENABLE => enable(content),
+            profile::DISABLE => disable(content),
+            profile::DELETE => delete_profile(content),
+            profile::LIST => list_profiles(content),
+            _ => Err(ReadError::Malformed),
+        }
     }
 }
 
-/// A list of operations on eIMs.
-struct EcoEntries;
+/// The operations on eIMs, one element each.
+pub(crate) struct EcoEntry;
 
-impl Listed<Eco> for EcoEntries {
+impl Listed<Eco> for EcoEntry {
     ghost use Rattle.package_codec.specs.Reading.{eco_of};
 
     ghost entry_of = { eco_of };
 
+    #[tactic(auto, unfolding(crate::specs::Reading::eco_of))]
     fn read(_alloc: Global, tag: u8, content: &[u8]) -> Result<Eco, ReadError> {
-        let Some(op) = eco(tag, content) else {
-            return Err(ReadError::Malformed);
-        };
-        Ok(op)
+        match tag {
+            eim::ADD => add(content),
+            eim::UPDATE => update(content),
+            eim::DELETE => delete_eim(content),
+            eim::LIST => list_eims(content),
+            _ => Err(ReadError::Malformed),
+        }
     }
 }
+
+/// The operations as one element, whose tag says the kind.
+pub(crate) struct BodyEntry;
 
 #[tactic(auto, unfolding(crate::specs::Reading::psmos_of))]
 fn psmos(alloc: Global, content: &[u8]) -> Result<Body, ReadError>
     ensures { Gives result (psmos_of content.now) }
 {
-    let ops = list::<Psmo, PsmoEntries>(alloc, content, MOST_OPERATIONS)?;
+    let ops = list::<Psmo, PsmoEntry>(alloc, content, MOST_OPERATIONS)?;
     if ops.is_empty() {
         return Err(ReadError::Malformed);
     }
@@ -180,21 +145,25 @@ fn psmos(alloc: Global, content: &[u8]) -> Result<Body, ReadError>
 fn ecos(alloc: Global, content: &[u8]) -> Result<Body, ReadError>
     ensures { Gives result (ecos_of content.now) }
 {
-    let ops = list::<Eco, EcoEntries>(alloc, content, MOST_OPERATIONS)?;
+    let ops = list::<Eco, EcoEntry>(alloc, content, MOST_OPERATIONS)?;
     if ops.is_empty() {
         return Err(ReadError::Malformed);
     }
     Ok(Body::Ecos(ops))
 }
 
-#[tactic(auto, unfolding(crate::specs::Reading::body_of))]
-fn body_of(alloc: Global, tag: u8, content: &[u8]) -> Result<Body, ReadError>
-    ensures { Gives result (body_of tag content.now) }
-{
-    match tag {
-        PSMOS => psmos(alloc, content),
-        ECOS => ecos(alloc, content),
-        _ => Err(ReadError::Malformed),
+impl Listed<Body> for BodyEntry {
+    ghost use Rattle.package_codec.specs.Reading.{body_of};
+
+    ghost entry_of = { body_of };
+
+    #[tactic(auto, unfolding(crate::specs::Reading::body_of))]
+    fn read(alloc: Global, tag: u8, content: &[u8]) -> Result<Body, ReadError> {
+        match tag {
+            operations::PSMOS => psmos(alloc, content),
+            operations::ECOS => ecos(alloc, content),
+            _ => Err(ReadError::Malformed),
+        }
     }
 }
 
@@ -203,11 +172,5 @@ fn body_of(alloc: Global, tag: u8, content: &[u8]) -> Result<Body, ReadError>
 pub(crate) fn body(alloc: Global, bytes: &[u8]) -> Result<Body, ReadError>
     ensures { Gives result (body_at bytes.now) }
 {
-    let Ok(found) = next(bytes) else {
-        return Err(ReadError::Malformed);
-    };
-    if !found.rest.is_empty() {
-        return Err(ReadError::Malformed);
-    }
-    body_of(alloc, found.tag, found.content)
+    whole::<Body, BodyEntry>(alloc, bytes)
 }

@@ -4,7 +4,7 @@ ghost use Rattle.std.specs.Prelude.{◌≤◌, length};
 ghost use Rattle.small_card.specs.Ranges.{IsBody, IsSigned};
 ghost use Rattle.small_card.specs.declared.types.Body.{Body};
 ghost use Rattle.small_card.specs.declared.types.Signed.{Signed};
-ghost use Rattle.package_codec.specs.Laws.{OneSpelling, ReadAgain, ReadsSpelled};
+ghost use Rattle.sgp_fields.specs.Laws.{OneSpelling, ReadAgain, ReadsSpelled};
 ghost use Rattle.package_codec.specs.Reading.{body_at, signed_at};
 ghost use Rattle.package_codec.specs.Spelling.{body, signed};
 

@@ -5,7 +5,6 @@
 mod body;
 mod body_writing;
 mod laws;
-mod lengths;
 mod reading;
 mod replies;
 mod tags;
@@ -15,10 +14,9 @@ pub use laws::{
     bodies_are_read_back, bodies_have_one_spelling, packages_are_read_back, packages_are_short,
     packages_have_one_spelling,
 };
-pub use lengths::signed_len;
 pub use reading::{read_body, read_signed};
 pub use replies::{counters_rise, histories_stay_legal, replies_are_in_range, results_go_last};
-pub use writing::write_signed;
+pub use writing::{signed_len, write_signed};
 
 #[cfg(test)]
 mod tests;

@@ -1,40 +1,34 @@
-ghost use Rattle.std.specs.Prelude.{◌≡◌, List, ℕ, Some, IfOk, IsErrOf};
+ghost use Rattle.std.specs.Prelude.{◌≡◌, Some, IfOk, IsErrOf};
 ghost use Rattle.sgp_der.specs.Fields.{Gives};
+ghost use Rattle.sgp_fields.specs.Laws.{SpellsNone};
 ghost use Rattle.small_card.specs.Ranges.{IsBody, IsSigned};
 ghost use Rattle.small_card.specs.declared.types.Body.{Body};
 ghost use Rattle.small_card.specs.declared.types.Signed.{Signed};
-ghost use Rattle.package_codec.specs.Reading.{body_at, package_of, signed_at};
+ghost use Rattle.package_codec.specs.Reading.{body_at, package_of, signed_of, signed_at};
 ghost use Rattle.package_codec.specs.Spelling.{body, signed};
 
 use crate::body;
-use crate::tags::{
-    ASSOCIATION, COUNTER, EID, EIM_ID, GREATEST_ASSOCIATION, GREATEST_COUNTER, MOST_SIGNATURE,
-    PACKAGE, SIGNATURE, SIGNED,
-};
+use crate::tags::{inner, outer};
 use iot_bytes::{ReadError, Row};
-use sgp_der::{field, only};
-use sgp_fields::{number, value};
+use sgp_fields::Fields;
 use sgp_values::{Eid, EimId};
+use small_card::limits::{GREATEST_ASSOCIATION, GREATEST_COUNTER};
 use small_card::{Body, Package, Signed};
 use std::alloc::Global;
+
+/// The most octets of a signature.
+const MOST_SIGNATURE: usize = 128;
 
 #[tactic(auto, unfolding(crate::specs::Reading::package_of))]
 fn package(alloc: Global, content: &[u8]) -> Result<Package, ReadError>
     ensures { Gives result (package_of content.now) }
 {
-    let Some((eim, rest)) = value::<EimId>(content, EIM_ID) else {
-        return Err(ReadError::Malformed);
-    };
-    let Some((eid, rest)) = value::<Eid>(rest, EID) else {
-        return Err(ReadError::Malformed);
-    };
-    let Some((association, rest)) = number(rest, ASSOCIATION, 1, GREATEST_ASSOCIATION) else {
-        return Err(ReadError::Malformed);
-    };
-    let Some((counter, rest)) = number(rest, COUNTER, 1, GREATEST_COUNTER) else {
-        return Err(ReadError::Malformed);
-    };
-    let body = body::body(alloc, rest)?;
+    let mut fields = Fields::of(content);
+    let eim = fields.value::<EimId>(inner::EIM_ID)?;
+    let eid = fields.value::<Eid>(inner::EID)?;
+    let association = fields.number(inner::ASSOCIATION, 1, u64::from(GREATEST_ASSOCIATION))?;
+    let counter = fields.number(inner::COUNTER, 1, GREATEST_COUNTER)?;
+    let body = body::body(alloc, fields.rest())?;
     Ok(Package {
         eim,
         eid,
@@ -44,26 +38,28 @@ fn package(alloc: Global, content: &[u8]) -> Result<Package, ReadError>
     })
 }
 
-#[tactic(auto, unfolding(crate::specs::Reading::signed_at))]
-fn whole(alloc: Global, bytes: &[u8]) -> Result<Signed, ReadError>
-    ensures { Gives result (signed_at bytes.now) }
+#[tactic(auto, unfolding(crate::specs::Reading::signed_of))]
+fn signed_fields(alloc: Global, content: &[u8]) -> Result<Signed, ReadError>
+    ensures { Gives result (signed_of content.now) }
 {
-    let Some(content) = only(bytes, SIGNED) else {
-        return Err(ReadError::Malformed);
-    };
-    let Some(inner) = field(content, PACKAGE) else {
-        return Err(ReadError::Malformed);
-    };
-    let package = package(alloc, inner.content)?;
-    let Some(octets) = only(inner.rest, SIGNATURE) else {
-        return Err(ReadError::Malformed);
-    };
+    let mut fields = Fields::of(content);
+    let inside = fields.content(outer::PACKAGE)?;
+    let package = package(alloc, inside)?;
+    let octets = fields.last_content(outer::SIGNATURE)?;
     if octets.len() > MOST_SIGNATURE {
         return Err(ReadError::Malformed);
     }
     let mut signature = Row::new(alloc);
     signature.append(octets)?;
     Ok(Signed { package, signature })
+}
+
+#[tactic(auto, unfolding(crate::specs::Reading::signed_at, sgp_fields::specs::Fields::last_at))]
+fn whole(alloc: Global, bytes: &[u8]) -> Result<Signed, ReadError>
+    ensures { Gives result (signed_at bytes.now) }
+{
+    let content = Fields::of(bytes).last_content(outer::WHOLE)?;
+    signed_fields(alloc, content)
 }
 
 /// The signed package that the octets spell (SGP.32, eUICC Package). The signature isn't read.
@@ -73,7 +69,7 @@ pub fn read_signed(alloc: Global, bytes: &[u8]) -> Result<Signed, ReadError>
     // What is spelled so is read, unless memory runs out.
     ensures only { (s : Signed) → IsSigned s → bytes.now ≡ signed s → Gives result (Some s) }
     // Malformed comes only where nothing is spelled so.
-    ensures malformed { IsErrOf result ReadError.Malformed → (s : Signed) → IsSigned s → bytes.now ≡ signed s → ⊥ }
+    ensures malformed { IsErrOf result ReadError.Malformed → SpellsNone signed IsSigned bytes.now }
     // The reading word, for callers that compose it.
     ensures exact { Gives result (signed_at bytes.now) }
 {
@@ -87,7 +83,7 @@ pub fn read_body(alloc: Global, bytes: &[u8]) -> Result<Body, ReadError>
     // What is spelled so is read, unless memory runs out.
     ensures only { (b : Body) → IsBody b → bytes.now ≡ body b → Gives result (Some b) }
     // Malformed comes only where nothing is spelled so.
-    ensures malformed { IsErrOf result ReadError.Malformed → (b : Body) → IsBody b → bytes.now ≡ body b → ⊥ }
+    ensures malformed { IsErrOf result ReadError.Malformed → SpellsNone body IsBody bytes.now }
     // The reading word, for callers that compose it.
     ensures exact { Gives result (body_at bytes.now) }
 {

@@ -1,58 +1,60 @@
-//! The tags and limits of signed packages (SGP.32, eUICC Package), for reader, writer and lengths.
+//! The tags of signed packages (SGP.32, eUICC Package), a module a record, for readers and writers.
 
-pub(crate) const SIGNED: u8 = 0x30;
+/// A package with its signature.
+pub(crate) mod outer {
+    pub(crate) const WHOLE: u8 = 0x30;
 
-pub(crate) const PACKAGE: u8 = 0x30;
+    pub(crate) const PACKAGE: u8 = 0x30;
 
-pub(crate) const SIGNATURE: u8 = 0x86;
+    pub(crate) const SIGNATURE: u8 = 0x86;
+}
 
-// The fields of a package.
-pub(crate) const EIM_ID: u8 = 0x80;
+/// What a package is about.
+pub(crate) mod inner {
+    pub(crate) const EIM_ID: u8 = 0x80;
 
-pub(crate) const EID: u8 = 0x81;
+    pub(crate) const EID: u8 = 0x81;
 
-pub(crate) const ASSOCIATION: u8 = 0x82;
+    pub(crate) const ASSOCIATION: u8 = 0x82;
 
-pub(crate) const COUNTER: u8 = 0x83;
+    pub(crate) const COUNTER: u8 = 0x83;
+}
 
-pub(crate) const PSMOS: u8 = 0xa4;
+/// The operations of a package, of one kind or the other.
+pub(crate) mod operations {
+    pub(crate) const PSMOS: u8 = 0xa4;
 
-pub(crate) const ECOS: u8 = 0xa5;
+    pub(crate) const ECOS: u8 = 0xa5;
+}
 
-// The operations on profiles and their fields.
-pub(crate) const ENABLE: u8 = 0xa0;
+/// An operation on profiles, and its fields.
+pub(crate) mod profile {
+    pub(crate) const ENABLE: u8 = 0xa0;
 
-pub(crate) const DISABLE: u8 = 0xa1;
+    pub(crate) const DISABLE: u8 = 0xa1;
 
-pub(crate) const DELETE_PROFILE: u8 = 0xa2;
+    pub(crate) const DELETE: u8 = 0xa2;
 
-pub(crate) const LIST_PROFILES: u8 = 0x83;
+    pub(crate) const LIST: u8 = 0x83;
 
-pub(crate) const ICCID: u8 = 0x80;
+    pub(crate) const ICCID: u8 = 0x80;
 
-pub(crate) const ROLLBACK: u8 = 0x81;
+    pub(crate) const ROLLBACK: u8 = 0x81;
+}
 
-// The operations on eIMs and their fields.
-pub(crate) const ADD: u8 = 0xa8;
+/// An operation on eIMs, and its fields.
+pub(crate) mod eim {
+    pub(crate) const ADD: u8 = 0xa8;
 
-pub(crate) const UPDATE: u8 = 0xa9;
+    pub(crate) const UPDATE: u8 = 0xa9;
 
-pub(crate) const DELETE_EIM: u8 = 0xaa;
+    pub(crate) const DELETE: u8 = 0xaa;
 
-pub(crate) const LIST_EIMS: u8 = 0x8b;
+    pub(crate) const LIST: u8 = 0x8b;
 
-pub(crate) const TARGET: u8 = 0x80;
+    pub(crate) const ID: u8 = 0x80;
 
-pub(crate) const ADDRESS: u8 = 0x81;
+    pub(crate) const ADDRESS: u8 = 0x81;
 
-pub(crate) const KEY: u8 = 0x82;
-
-/// The most operations of a package.
-pub(crate) const MOST_OPERATIONS: usize = 8;
-
-/// The most octets of a signature.
-pub(crate) const MOST_SIGNATURE: usize = 128;
-
-pub(crate) const GREATEST_ASSOCIATION: u64 = 4_294_967_295;
-
-pub(crate) const GREATEST_COUNTER: u64 = 9_223_372_036_854_775_807;
+    pub(crate) const KEY: u8 = 0x82;
+}

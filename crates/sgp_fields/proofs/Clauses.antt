@@ -5,6 +5,8 @@ use Rattle.iot_bytes.specs.declared.memory.ReadError.{ReadError}
 use Rattle.iot_bytes.specs.declared.memory.ReadError.TheVariants.{Malformed, NoMemory}
 use Rattle.sgp_der.specs.Fields.{Gives}
 use Rattle.sgp_der.proofs.Lengths.{IsBytes}
+use Rattle.sgp_values.proofs.Octets.{bounds_from_AllPass}
+use Rattle.sgp_fields.specs.Laws.{ReadsSpelled, ReadAgain}
 use Rattle.sgp_fields.proofs.Codecs.{IsCodec}
 use Rattle.sgp_fields.proofs.Steps.{some_is}
 
@@ -29,3 +31,12 @@ malformed_by {X} {read} codec bytes r e wrong x fits is =
 -- two values with one spelling are the same
 pub one_by : {X : Type 0} {read : List ℕ → Option X} {spell : X → List ℕ} {Fits : X → Type 0} → IsCodec read spell Fits → (a b : X) → Fits a → Fits b → spell a ≡ spell b → a ≡ b
 one_by {X} {read} codec a b g h e = some_is a b (sym (codec.again a g) ∙ ap read e ∙ codec.again b h)
+
+-- the two laws of reading
+pub reads_spelled : {X : Type 0} {read : List ℕ → Option X} {spell : X → List ℕ} {Fits : X → Type 0} → IsCodec read spell Fits → ReadsSpelled read spell Fits
+reads_spelled codec bytes x octets e =
+    let t = codec.takes bytes x (bounds_from_AllPass bytes octets) e in
+    (t.1, t.0)
+
+pub reads_again : {X : Type 0} {read : List ℕ → Option X} {spell : X → List ℕ} {Fits : X → Type 0} → IsCodec read spell Fits → ReadAgain read spell Fits
+reads_again codec = codec.again

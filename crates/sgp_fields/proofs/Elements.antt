@@ -1,18 +1,19 @@
 -- Values that are one element: read from its tag and content.
 use Rattle.std.proofs.Common.{◌≡◌, ℕ, ◌≤◌, ◌/◌, Bool, true, false, cond, List, [], ◌++◌, length, get_or, Option, Some, None, refl, sym, ap, ◌∙◌, arith, inl, inr}
 use Rattle.std.specs.Prelude.{◌==◌}
-use Rattle.std.proofs.lemmas.Bool.{eqb-true, cases_lt}
+use Rattle.std.proofs.lemmas.Bool.{eqb-true, eq-eqb, cases_lt}
 use Rattle.std.proofs.lemmas.Bool.Decides.{nat_tests}
 use Rattle.std.proofs.lemmas.List.{append-nil}
-use Rattle.sgp_der.specs.Element.{element, len_octets}
+use Rattle.sgp_der.specs.Element.{element, len_octets, IsTag}
 use Rattle.sgp_der.specs.Fields.{part_at}
 use Rattle.sgp_der.proofs.Lengths.{IsBytes}
 use Rattle.sgp_der.proofs.Elements.{element_split}
 use Rattle.sgp_der.proofs.Fields.{on_some, part_takes, part_again}
-use Rattle.sgp_fields.specs.Elements.{whole_at}
+use Rattle.sgp_fields.specs.Elements.{whole_at, tagged_as}
+use Rattle.sgp_fields.specs.Fields.{last_at}
 use Rattle.sgp_fields.specs.Laws.{OneSpelling}
 use Rattle.sgp_fields.proofs.Codecs.{IsCodec, IsListed, IsTaken}
-use Rattle.sgp_fields.proofs.Steps.{some_is, on_end}
+use Rattle.sgp_fields.proofs.Steps.{some_is, on_end, last_again, last_takes}
 
 -- the content was read where the tag was found
 pub tagged_some : {A : Type 0} (test : Bool) (read : Option A) (x : A) → cond test read None ≡ Some x → (test ≡ true) × (read ≡ Some x)
@@ -51,6 +52,25 @@ whole_again {X} {entry} law x h =
 -- whole elements and their octets
 pub whole_codec : {X : Type 0} {entry : ℕ → List ℕ → Option X} {spell : X → List ℕ} {Fits : X → Type 0} → IsListed entry spell Fits → IsCodec (whole_at entry) spell Fits
 whole_codec law = record { takes = whole_takes law; again = whole_again law }
+
+-- a value whose fields stand in one element of this tag
+pub record_codec : {X : Type 0} {of : List ℕ → Option X} {spell : X → List ℕ} {Fits : X → Type 0} → IsCodec of spell Fits → (tag : ℕ) → IsTag tag → ((x : X) → Fits x → length (spell x) ≤ 16777215)
+    → IsCodec (last_at of tag) (λ x. element tag (spell x)) Fits
+record_codec codec tag low few = record {
+  takes = λ bytes x fits e. let t = last_takes codec tag bytes x fits e in (t.octets, t.fits);
+  again = λ x fits. last_again codec tag x low (few x fits) fits;
+}
+
+-- the same, as an entry of a list
+pub record_listed : {X : Type 0} {of : List ℕ → Option X} {spell : X → List ℕ} {Fits : X → Type 0} → IsCodec of spell Fits → (tag : ℕ) → IsTag tag → ((x : X) → Fits x → length (spell x) ≤ 16777215)
+    → IsListed (tagged_as tag of) (λ x. element tag (spell x)) Fits
+record_listed {X} {of} {spell} {Fits} codec tag low few = record {
+  takes = λ n content x fits short e.
+      let g = tagged_some (n == tag) (of content) x e in
+      let t = codec.takes content x fits g.1 in
+      retagged n tag content x g.0 (record { octets = ap (element tag) t.0; fits = t.1 });
+  again = λ x fits. record { tag = tag; content = spell x; octets = refl; low = low; few = few x fits; read = rw (eq-eqb tag tag refl) (codec.again x fits) };
+}
 
 -- one spelling is of one value, and no spelling is a proper prefix of another
 pub one_spelling : {X : Type 0} {entry : ℕ → List ℕ → Option X} {spell : X → List ℕ} {Fits : X → Type 0} → IsListed entry spell Fits → OneSpelling spell Fits

@@ -5,6 +5,7 @@ pub mod ListCodec
 pub mod ValueCodecs
 pub mod Numbers
 pub mod Elements
+pub mod Marks
 pub mod Clauses
 pub mod Appending
 pub mod Sizes

@@ -90,6 +90,14 @@ on_last {X} {A} {P} {of} {spell} {Fits} codec tag bytes f y fits e go =
     let v = codec.takes content x t.1 a1 in
     go x (record { octets = t.0 ∙ ap (element tag) v.0; fits = v.1 }) e1))
 
+pub last_takes : {X : Type 0} {of : List ℕ → Option X} {spell : X → List ℕ} {Fits : X → Type 0} → IsCodec of spell Fits → (tag : ℕ) (bytes : List ℕ) (x : X) → IsBytes bytes → last_at of tag bytes ≡ Some x → IsLast spell Fits tag bytes x
+unfolding last_at
+last_takes {X} {of} codec tag bytes x fits e =
+    on_some (only_at tag bytes) of x e (λ content b a1.
+    let t = only_takes tag bytes content fits b in
+    let v = codec.takes content x t.1 a1 in
+    record { octets = t.0 ∙ ap (element tag) v.0; fits = v.1 })
+
 pub last_again : {X : Type 0} {of : List ℕ → Option X} {spell : X → List ℕ} {Fits : X → Type 0} → IsCodec of spell Fits → (tag : ℕ) (x : X) → IsTag tag → length (spell x) ≤ 16777215 → Fits x
     → last_at of tag (element tag (spell x)) ≡ Some x
 unfolding last_at

@@ -1,10 +1,10 @@
 -- Reading the fields of a record from the left, and how they are spelled.
-use Rattle.std.specs.Prelude.{◌≡◌, ℕ, Bool, true, false, List, [], Option, Some, None, Result, Ok, Err}
+use Rattle.std.specs.Prelude.{◌≡◌, ℕ, Bool, true, false, List, [], ◌∷◌, Option, Some, None, Result, Ok, Err}
 use Rattle.iot_bytes.specs.declared.memory.ReadError.{ReadError}
 use Rattle.iot_bytes.specs.declared.memory.ReadError.TheVariants.{Malformed}
 use Rattle.sgp_der.specs.Element.{element}
 use Rattle.sgp_der.specs.Reading.{Part}
-use Rattle.sgp_der.specs.Fields.{◌>>=◌, field_at, only_at}
+use Rattle.sgp_der.specs.Fields.{◌>>=◌, field_at, only_at, ended}
 
 -- the value of the field of this tag at the front, and what follows
 unfoldable pub value_at : {X : Type 0} → (List ℕ → Option X) → ℕ → List ℕ → Option (X × List ℕ)
@@ -29,6 +29,14 @@ found_or_out of bytes (Some p) = do
 -- the value of a field that may be left out, and what follows
 unfoldable pub optional_at : {X : Type 0} → (List ℕ → Option X) → ℕ → List ℕ → Option (Option X × List ℕ)
 optional_at of tag bytes = found_or_out of bytes (field_at tag bytes)
+
+-- whether the mark of this tag is all that is left, and not nothing
+unfoldable pub last_mark_at : ℕ → List ℕ → Option Bool
+last_mark_at tag [] = Some false
+last_mark_at tag (b ∷ bs) = do
+  content ← only_at tag (b ∷ bs)
+  end ← ended content
+  Some true
 
 -- octets stand for themselves
 abbrev pub octets : List ℕ → List ℕ

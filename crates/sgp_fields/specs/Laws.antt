@@ -18,3 +18,7 @@ ReadAgain {X} read spell Fits = (x : X) → Fits x → read (spell x) ≡ Some x
 -- one spelling is of one value, and no spelling is a proper prefix of another
 abbrev pub OneSpelling : {X : Type 0} → (X → List ℕ) → (X → Type 0) → Type 0
 OneSpelling {X} spell Fits = (a b : X) (x y : List ℕ) → Fits a → Fits b → spell a ++ x ≡ spell b ++ y → (a ≡ b) × (x ≡ y)
+
+-- no value in range is spelled so
+abbrev pub SpellsNone : {X : Type 0} → (X → List ℕ) → (X → Type 0) → List ℕ → Type 0
+SpellsNone {X} spell Fits bytes = (x : X) → Fits x → bytes ≡ spell x → ⊥

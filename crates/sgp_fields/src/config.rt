@@ -44,7 +44,7 @@ pub fn read_config(content: &[u8]) -> Result<EimConfig, ReadError>
 }
 
 /// How many octets the fields of a configuration have. It takes no memory.
-#[tactic(auto, unfolding(crate::specs::Config::config_content), using(crate::proofs::Appending::length_both))]
+#[tactic(auto, unfolding(crate::specs::Config::config_content), using(crate::proofs::Appending::length_both),)]
 pub fn config_len(id: &EimId, address: &Address, key: &Key) -> usize
     ensures len { result ≡ length (config_content id.now address.now key.now) }
     ensures few { result ≤ 399 }
@@ -53,7 +53,7 @@ pub fn config_len(id: &EimId, address: &Address, key: &Key) -> usize
 }
 
 /// Appends the fields of a configuration, or a part of them where memory runs out.
-#[tactic(auto, unfolding(crate::specs::Config::config_content), using(crate::proofs::Appending::appended))]
+#[tactic(auto, unfolding(crate::specs::Config::config_content), using(crate::proofs::Appending::appended),)]
 pub fn put_config(
     out: &mut Row<u8>,
     id: &EimId,

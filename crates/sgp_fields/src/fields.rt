@@ -2,7 +2,7 @@
 
 ghost use Rattle.std.specs.Prelude.{◌≡◌, ◌≤◌, ℕ, List, Some, None, IfOk, MatchOption, MatchResult};
 ghost use Rattle.sgp_der.specs.Fields.{ended, field_at, only_at};
-ghost use Rattle.sgp_fields.specs.Fields.{Finds, Takes, last_at, optional_at, value_at};
+ghost use Rattle.sgp_fields.specs.Fields.{Finds, Takes, last_at, last_mark_at, optional_at, value_at};
 ghost use Rattle.sgp_fields.specs.Values.{number_of};
 
 use crate::values::{Content, bounded};
@@ -104,6 +104,22 @@ impl<'a> Fields<'a> {
         ensures { MatchResult result (λ x. only_at tag self.entry ≡ Some x.now) (λ e. (e ≡ ReadError.Malformed) × (only_at tag self.entry ≡ None)) }
     {
         only(self.rest, tag).ok_or(ReadError::Malformed)
+    }
+
+    /// Whether the mark of this tag, an empty field, is there. It is the last field.
+    #[tactic(auto, unfolding(crate::specs::Fields::last_mark_at))]
+    pub fn last_mark(self, tag: u8) -> Result<bool, ReadError>
+        ensures { Finds result (last_mark_at tag self.entry) }
+    {
+        if self.rest.is_empty() {
+            return Ok(false);
+        }
+        let content = only(self.rest, tag).ok_or(ReadError::Malformed)?;
+        if content.is_empty() {
+            Ok(true)
+        } else {
+            Err(ReadError::Malformed)
+        }
     }
 
     /// That no field is left.

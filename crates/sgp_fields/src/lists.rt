@@ -1,5 +1,6 @@
 ghost use Rattle.std.specs.Prelude.{◌≡◌, ℕ, List, Option, Some, None, MatchOption};
 ghost use Rattle.sgp_der.specs.Fields.{Gives, part_at};
+ghost use Rattle.sgp_fields.specs.Elements.{whole_at};
 ghost use Rattle.sgp_fields.specs.Lists.{list_at};
 
 use iot_bytes::{ReadError, Row};
@@ -46,4 +47,18 @@ pub fn list<T: Drop, R: Listed<T>>(
         rest = found.rest;
     }
     Ok(rows)
+}
+
+/// The value of the one element that the bytes are, with nothing behind it.
+#[tactic(auto, unfolding(crate::specs::Elements::whole_at))]
+pub fn whole<T: Drop, R: Listed<T>>(alloc: Global, bytes: &[u8]) -> Result<T, ReadError>
+    ensures { Gives result (whole_at R.entry_of bytes.now) }
+{
+    let Some(found) = part(bytes) else {
+        return Err(ReadError::Malformed);
+    };
+    if !found.rest.is_empty() {
+        return Err(ReadError::Malformed);
+    }
+    R::read(alloc, found.tag, found.content)
 }

@@ -1,15 +1,13 @@
-use Rattle.std.proofs.Common.{ap, subst, ◌∙◌, arith}
-use Rattle.sgp_der.specs.Fields.{Gives}
-use Rattle.package_codec.specs.Reading.{body_at}
-use Rattle.package_codec.proofs.Bodies.{body_takes, body_again}
-use Rattle.package_codec.proofs.Giving.{found, not_malformed}
+use Rattle.std.proofs.Common.{arith}
+use Rattle.sgp_fields.proofs.Clauses.{found_by, only_by, malformed_by}
+use Rattle.package_codec.proofs.Bodies.{body_codec}
 use Rattle.package_codec.proofs.reading.read_body.Goals as goal
 
 pub returns-clause-found : goal.returns-clause-found
-returns-clause-found c = found c.body.result (body_at c.args.bytes.now) _ c.body.ensures (λ b. body_takes c.args.bytes.now b (λ i. omega (arith, c.type_inv.bytes i)))
+returns-clause-found c = found_by body_codec c.args.bytes.now c.body.result (λ i. omega (arith, c.type_inv.bytes i)) c.body.ensures
 
 pub returns-clause-only : goal.returns-clause-only
-returns-clause-only c = λ b fits e. subst (Gives c.body.result) (ap body_at e ∙ body_again b fits) c.body.ensures
+returns-clause-only c = λ b fits e. only_by body_codec c.args.bytes.now c.body.result c.body.ensures b fits e
 
 pub returns-clause-malformed : goal.returns-clause-malformed
-returns-clause-malformed c = λ h b fits e. not_malformed c.body.result b (subst (Gives c.body.result) (ap body_at e ∙ body_again b fits) c.body.ensures) h
+returns-clause-malformed c = λ h b fits e. malformed_by body_codec c.args.bytes.now c.body.result c.body.ensures h b fits e

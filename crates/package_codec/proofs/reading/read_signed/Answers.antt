@@ -1,15 +1,13 @@
-use Rattle.std.proofs.Common.{ap, subst, ◌∙◌, arith}
-use Rattle.sgp_der.specs.Fields.{Gives}
-use Rattle.package_codec.specs.Reading.{signed_at}
-use Rattle.package_codec.proofs.Packages.{signed_takes, signed_again}
-use Rattle.package_codec.proofs.Giving.{found, not_malformed}
+use Rattle.std.proofs.Common.{arith}
+use Rattle.sgp_fields.proofs.Clauses.{found_by, only_by, malformed_by}
+use Rattle.package_codec.proofs.Packages.{signed_codec}
 use Rattle.package_codec.proofs.reading.read_signed.Goals as goal
 
 pub returns-clause-found : goal.returns-clause-found
-returns-clause-found c = found c.whole.result (signed_at c.args.bytes.now) _ c.whole.ensures (λ s. signed_takes c.args.bytes.now s (λ i. omega (arith, c.type_inv.bytes i)))
+returns-clause-found c = found_by signed_codec c.args.bytes.now c.whole.result (λ i. omega (arith, c.type_inv.bytes i)) c.whole.ensures
 
 pub returns-clause-only : goal.returns-clause-only
-returns-clause-only c = λ s fits e. subst (Gives c.whole.result) (ap signed_at e ∙ signed_again s fits) c.whole.ensures
+returns-clause-only c = λ b fits e. only_by signed_codec c.args.bytes.now c.whole.result c.whole.ensures b fits e
 
 pub returns-clause-malformed : goal.returns-clause-malformed
-returns-clause-malformed c = λ h s fits e. not_malformed c.whole.result s (subst (Gives c.whole.result) (ap signed_at e ∙ signed_again s fits) c.whole.ensures) h
+returns-clause-malformed c = λ h b fits e. malformed_by signed_codec c.args.bytes.now c.whole.result c.whole.ensures h b fits e
