@@ -2,7 +2,7 @@ ghost use Rattle.std.specs.Prelude.{◌≡◌, ◌++◌, length, take, OnOk, OnE
 ghost use Rattle.std.specs.List.{flat_map};
 ghost use Rattle.trace_text.specs.Texts.{sign_text, profile_entry, package_text, eim_entry, pending_entry, profiles_text, eims_text, pending_text, card_text};
 
-use crate::parts::{put_mark, put_number};
+use crate::parts::{put_mark, put_number, put_text};
 use iot_bytes::{NoMemory, Row, put_hex};
 use sgp_values::EimId;
 use small_card::{EimEntry, PackageResult, Profile};
@@ -33,17 +33,19 @@ fn put_profiles(out: &mut Row<u8>, profiles: &[Profile]) -> Result<(), NoMemory>
     Ok(())
 }
 
+// A label, and what names a package behind it.
 #[tactic(auto, using(crate::proofs::Appending::appended), unfolding(crate::specs::Texts::package_text))]
 fn put_package(
     out: &mut Row<u8>,
+    label: &[u8],
     id: &EimId,
     association: u32,
     counter: u64,
 ) -> Result<(), NoMemory>
-    ensures ok { OnOk result (out.new ≡ out.old ++ package_text id.now association counter) }
+    ensures ok { OnOk result (out.new ≡ out.old ++ (label.now ++ package_text id.now association counter)) }
     ensures err { OnErr result (take (length out.old) out.new ≡ out.old) }
 {
-    out.append(id.octets())?;
+    put_text(out, label, id.octets())?;
     put_number(out, b"/", u64::from(association))?;
     put_number(out, b"/", counter)
 }
@@ -53,8 +55,7 @@ fn put_eim(out: &mut Row<u8>, eim: &EimEntry) -> Result<(), NoMemory>
     ensures ok { OnOk result (out.new ≡ out.old ++ eim_entry eim.now) }
     ensures err { OnErr result (take (length out.old) out.new ≡ out.old) }
 {
-    out.append(b" ")?;
-    put_package(out, &eim.id, eim.association, eim.counter)
+    put_package(out, b" ", &eim.id, eim.association, eim.counter)
 }
 
 fn put_eims(out: &mut Row<u8>, eims: &[EimEntry]) -> Result<(), NoMemory>
@@ -73,8 +74,8 @@ fn put_pending(out: &mut Row<u8>, pending: &PackageResult) -> Result<(), NoMemor
     ensures err { OnErr result (take (length out.old) out.new ≡ out.old) }
 {
     put_number(out, b" ", u64::from(pending.seq))?;
-    out.append(b"/")?;
-    put_package(out, &pending.eim, pending.association, pending.counter)?;
+    let (association, counter) = (pending.association, pending.counter);
+    put_package(out, b"/", &pending.eim, association, counter)?;
     put_mark(out, pending.rolled)
 }
 

@@ -7,6 +7,16 @@ ghost use Rattle.trace_text.specs.Texts.{mark_text};
 
 use iot_bytes::{NoMemory, Row, put_decimal};
 
+/// Appends a label and a text behind it.
+#[tactic(auto, using(crate::proofs::Appending::appended))]
+pub(crate) fn put_text(out: &mut Row<u8>, label: &[u8], text: &[u8]) -> Result<(), NoMemory>
+    ensures ok { OnOk result (out.new ≡ out.old ++ (label.now ++ text.now)) }
+    ensures err { OnErr result (take (length out.old) out.new ≡ out.old) }
+{
+    out.append(label)?;
+    out.append(text)
+}
+
 /// Appends a label and a number behind it.
 #[tactic(auto, using(crate::proofs::Appending::appended))]
 pub(crate) fn put_number(out: &mut Row<u8>, label: &[u8], n: u64) -> Result<(), NoMemory>
