@@ -1,0 +1,4 @@
+mod Going
+mod Ending
+mod Mapping
+mod StopRecord

@@ -1,0 +1,6 @@
+pub mod Status
+pub mod Edges
+pub mod Frames
+pub mod Sends
+pub mod Parts
+pub mod Runs

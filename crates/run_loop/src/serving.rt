@@ -1,0 +1,132 @@
+ghost use Rattle.std.specs.Prelude.{◌≡◌, ℕ, ◌+◌, ◌<◌, ◌≤◌, ◌⊎◌, List, Option, Some, None, Result, Ok, Err, IfOk, IfErr};
+ghost use Rattle.run_loop.specs.Edges.{Edge, edge, HasCauses};
+ghost use Rattle.run_loop.specs.Parts.{Replies};
+ghost use Rattle.run_loop.specs.Runs.{Progress, Turned, Halted, Ended};
+ghost use Rattle.run_loop.specs.Sends.{Closes};
+ghost use Rattle.run_loop.specs.Status.{halt_status, has_record};
+ghost use Rattle.es10_codec.specs.Spelling.{stopped};
+ghost use Rattle.iot_bytes.specs.Causes.{Rose};
+ghost use Rattle.iot_bytes.specs.Frames.{blank_head};
+
+use crate::halt::{Halt, PartStop, ReadStop, RunEnd, SendStop};
+use crate::part::Part;
+use crate::reading::{MOST_FRAMES, next_frame, no_further};
+use crate::sending::{send_frame, send_stopped};
+use iot_bytes::{NoMemory, Row, Sink, Source, begin_frame, end_frame};
+use std::alloc::Global;
+
+/// Why no more frames are answered, and the number of the frame in hand, from 1.
+#[derive(Clone, Copy)]
+struct Last {
+    halt: Halt,
+    number: u64,
+}
+
+// A row with the place of a frame's length. It is taken before the frame is read, so that a frame
+// that was read is handed to the part.
+fn empty_answer(alloc: Global) -> Result<Row<u8>, ReadStop>
+    ensures begun { IfOk result (λ out. out ≡ blank_head) }
+    ensures memory { IfErr result (λ stop. stop ≡ ReadStop.NoMemory) }
+{
+    let mut out = Row::new(alloc);
+    match begin_frame(&mut out) {
+        Ok(()) => Ok(out),
+        Err(NoMemory) => Err(ReadStop::NoMemory),
+    }
+}
+
+// The frame of the part's answer, in the row that has the place of its length.
+fn reply<P: Part>(
+    alloc: Global,
+    part: &mut P,
+    octets: &[u8],
+    out: &mut Row<u8>,
+) -> Result<(), PartStop>
+    requires { out.old ≡ blank_head }
+    ensures { Replies P.behind P.stops part.old part.new octets.now out.new result }
+{
+    part.answer(alloc, octets, out)?;
+    end_frame(out);
+    Ok(())
+}
+
+// Reads a frame, has it answered and sends the answer.
+fn turn<P: Part, S: Source, K: Sink>(
+    alloc: Global,
+    part: &mut P,
+    source: &mut S,
+    sink: &mut K,
+) -> Result<(), Halt>
+    ensures { (first : P) (start : Edge) (count : ℕ) → count < MOST_FRAMES
+        → Progress (P.behind first part.old) start
+        (edge (S.rest source.old) (S.faults source.old) (K.sent sink.old) (K.faults sink.old)) count
+        → Turned (P.behind first part.new) (P.stops first part.new) start
+        (edge (S.rest source.new) (S.faults source.new) (K.sent sink.new) (K.faults sink.new)) count result }
+{
+    let mut out = empty_answer(alloc)?;
+    let frame = next_frame(alloc, source)?;
+    reply(alloc, part, frame.as_slice(), &mut out)?;
+    send_frame(out.as_slice(), sink)?;
+    Ok(())
+}
+
+// Answers the frames, until something ends the run.
+fn handle<P: Part, S: Source, K: Sink>(
+    alloc: Global,
+    part: &mut P,
+    source: &mut S,
+    sink: &mut K,
+) -> Last
+    ensures { Halted (P.behind part.old part.new) (P.stops part.old part.new)
+        (edge (S.rest source.old) (S.faults source.old) (K.sent sink.old) (K.faults sink.old))
+        (edge (S.rest source.new) (S.faults source.new) (K.sent sink.new) (K.faults sink.new))
+        result.number result.halt }
+{
+    for handled in 0..MOST_FRAMES {
+        match turn(alloc, part, source, sink) {
+            Ok(()) => {}
+            Err(halt) => {
+                let number = u64::from(handled) + 1;
+                return Last { halt, number };
+            }
+        }
+    }
+    let stop = no_further(alloc, source);
+    Last {
+        halt: Halt::Reading(stop),
+        number: u64::from(MOST_FRAMES) + 1,
+    }
+}
+
+// Writes the stop record, where the reason has one.
+fn close<K: Sink>(alloc: Global, last: Last, sink: &mut K) -> Result<(), SendStop>
+    ensures closes { Closes (has_record last.halt) (K.sent sink.old) (K.sent sink.new)
+        (stopped (halt_status last.halt) last.number) result }
+    ensures fault { result ≡ Err SendStop.Fault → Rose (K.faults sink.old) (K.faults sink.new) }
+    ensures later { K.faults sink.old ≤ K.faults sink.new }
+{
+    if last.halt.has_record() {
+        send_stopped(alloc, last.halt.status(), last.number, sink)
+    } else {
+        Ok(())
+    }
+}
+
+/// Has the frames of a source answered, until something ends the run, and writes the stop record.
+pub fn serve<P: Part, S: Source, K: Sink>(
+    alloc: Global,
+    part: &mut P,
+    source: &mut S,
+    sink: &mut K,
+) -> RunEnd
+    ensures { Ended (P.behind part.old part.new) (P.stops part.old part.new)
+        (edge (S.rest source.old) (S.faults source.old) (K.sent sink.old) (K.faults sink.old))
+        (edge (S.rest source.new) (S.faults source.new) (K.sent sink.new) (K.faults sink.new)) result }
+{
+    let last = handle(alloc, part, source, sink);
+    let closing = close(alloc, last, sink);
+    RunEnd {
+        halt: last.halt,
+        closing,
+    }
+}
