@@ -1,5 +1,5 @@
 -- What the reading of a value says, both ways.
-use Rattle.std.specs.Prelude.{◌≡◌, ◌==◌, ◌&&◌, ℕ, nat_le, Bool, true, false, List, length, Some, None, if◌then◌else◌}
+use Rattle.std.specs.Prelude.{◌≡◌, ◌==◌, ◌&&◌, ℕ, nat_le, ◌↔◌, IsTrue, Bool, true, false, List, length, Some, None, if◌then◌else◌}
 use Rattle.std.specs.Bool.{Decides}
 use Rattle.std.specs.List.{AllPass, list_all}
 use Rattle.std.specs.Str.{IsUtf8, is_utf8}
@@ -31,6 +31,10 @@ Decides-le m n = (leb-true m n, le-leb m n)
 
 Decides-list_all : (p : ℕ → Bool) (octets : List ℕ) → Decides (list_all p octets) (AllPass p octets)
 Decides-list_all p octets = (AllPass-from_list_all p octets, list_all-from_AllPass p octets)
+
+-- a test of all octets decides whether each passes
+pub decided_all : (p : ℕ → Bool) (octets : List ℕ) (b : Bool) → b ≡ list_all p octets → IsTrue b ↔ AllPass p octets
+decided_all p octets b e = rw e (Decides-list_all p octets)
 
 Decides-is_utf8 : (octets : List ℕ) → Decides (is_utf8 octets) (IsUtf8 octets)
 Decides-is_utf8 octets = (IsUtf8-from_is_utf8 octets, is_utf8-from_IsUtf8 octets)

@@ -1,7 +1,8 @@
 ghost use Rattle.std.specs.Prelude.{◌≡◌, MatchResult, Some, None};
-ghost use Rattle.sgp_values.specs.Ranges.{IsAddress, is_address_octet};
+ghost use Rattle.sgp_values.specs.Ranges.{IsAddress};
 ghost use Rattle.sgp_values.specs.Reading.{address_of};
 
+use crate::alphabet::are_address_octets;
 use crate::bounded::Bounded;
 use crate::out_of_range::OutOfRange;
 use std::marker::Model;
@@ -28,12 +29,6 @@ impl Model for Address {
     ghost inverse = { λ xs. record { octets = xs } };
 }
 
-fn is_address(octet: u8) -> bool
-    ensures { result ≡ is_address_octet octet }
-{
-    octet.is_ascii_graphic() && octet != b'#'
-}
-
 impl Address {
     /// The address that these octets are.
     ///
@@ -44,7 +39,7 @@ impl Address {
         ensures value { MatchResult result (λ address. IsAddress octets.now × (address ≡ octets.now)) (λ _. ¬ IsAddress octets.now) }
         ensures exact { MatchResult result (λ address. address_of octets.now ≡ Some address) (λ _. address_of octets.now ≡ None) }
     {
-        if octets.len() > MAX_LENGTH || !octets.iter().all(|octet| is_address(*octet)) {
+        if octets.len() > MAX_LENGTH || !are_address_octets(octets) {
             return Err(OutOfRange);
         }
         Ok(Address {

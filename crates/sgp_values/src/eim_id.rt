@@ -1,7 +1,8 @@
 ghost use Rattle.std.specs.Prelude.{◌≡◌, MatchResult, Some, None};
-ghost use Rattle.sgp_values.specs.Ranges.{IsEimId, is_name_octet};
+ghost use Rattle.sgp_values.specs.Ranges.{IsEimId};
 ghost use Rattle.sgp_values.specs.Reading.{eim_id_of};
 
+use crate::alphabet::are_names;
 use crate::bounded::Bounded;
 use crate::out_of_range::OutOfRange;
 use std::marker::Model;
@@ -29,17 +30,6 @@ impl Model for EimId {
     ghost inverse = { λ xs. record { octets = xs } };
 }
 
-fn is_name(octet: u8) -> bool
-    ensures { result ≡ is_name_octet octet }
-{
-    octet.is_ascii_lowercase()
-        || octet.is_ascii_uppercase()
-        || octet.is_ascii_digit()
-        || octet == b'.'
-        || octet == b'-'
-        || octet == b'_'
-}
-
 impl EimId {
     /// The identifier that these octets are.
     ///
@@ -51,10 +41,7 @@ impl EimId {
         ensures value { MatchResult result (λ id. IsEimId octets.now × (id ≡ octets.now)) (λ _. ¬ IsEimId octets.now) }
         ensures exact { MatchResult result (λ id. eim_id_of octets.now ≡ Some id) (λ _. eim_id_of octets.now ≡ None) }
     {
-        if octets.is_empty()
-            || octets.len() > MAX_LENGTH
-            || !octets.iter().all(|octet| is_name(*octet))
-        {
+        if octets.is_empty() || octets.len() > MAX_LENGTH || !are_names(octets) {
             return Err(OutOfRange);
         }
         Ok(EimId {

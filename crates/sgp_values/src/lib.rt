@@ -8,6 +8,7 @@
 #![tactic(auto)]
 
 mod address;
+mod alphabet;
 mod bounded;
 mod eid;
 mod eim_id;
