@@ -7,6 +7,7 @@ use Rattle.sgp_der.specs.declared.element.DerFault.TheVariants.{Short, Tag}
 use Rattle.sgp_der.specs.Element.{len_octets, element, IsTag, Tlv, Begins, SameElement}
 use Rattle.sgp_der.specs.Reading.{◌>>=◌, Part, len_at, element_at}
 use Rattle.sgp_der.proofs.Lengths.{IsBytes, len_again, len_takes, len_few}
+use Rattle.sgp_der.specs.declared.form.TheConstants.{MOST_CONTENT}
 
 -- the value of a step that did not fail
 pub bind_ok : {A B : Type 0} (r : Result A DerFault) (f : A → Result B DerFault) (y : B) → (r >>= f) ≡ Ok y → (x : A) × (r ≡ Ok x) × (f x ≡ Ok y)
@@ -18,7 +19,7 @@ pub guard_ok : {A : Type 0} (b : Bool) (d : DerFault) (r : Result A DerFault) (y
 guard_ok true d x y e = absurd cc
 guard_ok false d x y e = (refl, e)
 
-pub element_again : (tag : ℕ) (content rest : List ℕ) → IsTag tag → length content ≤ 16777215 → element_at (element tag content ++ rest) ≡ Ok (record { tag = tag; content = content; rest = rest })
+pub element_again : (tag : ℕ) (content rest : List ℕ) → IsTag tag → length content ≤ MOST_CONTENT → element_at (element tag content ++ rest) ≡ Ok (record { tag = tag; content = content; rest = rest })
 unfolding element_at element
 element_again tag content rest low few =
     let n = length content in
@@ -26,7 +27,7 @@ element_again tag content rest low few =
     let long : ltb (length (content ++ rest)) n ≡ false = le-ltb _ _ (omega (arith, length-append content rest)) in
     rw (ne_eqb (tag % 32) 31 low, regroup, len_again n (content ++ rest) few, long, take_at content rest n refl, drop_at content rest n refl) refl
 
-pub element_takes : (bytes : List ℕ) (p : Part) → IsBytes bytes → element_at bytes ≡ Ok p → (bytes ≡ element p.tag p.content ++ p.rest) × IsTag p.tag × (length p.content ≤ 16777215)
+pub element_takes : (bytes : List ℕ) (p : Part) → IsBytes bytes → element_at bytes ≡ Ok p → (bytes ≡ element p.tag p.content ++ p.rest) × IsTag p.tag × (length p.content ≤ MOST_CONTENT)
 unfolding element_at element
 element_takes [] p fits e = absurd cc
 element_takes (tag ∷ after) p fits e =
@@ -39,7 +40,7 @@ element_takes (tag ∷ after) p fits e =
     let same : made ≡ p = cc in
     let whole : tag ∷ after ≡ element tag (take a.0.0 a.0.1) ++ drop a.0.0 a.0.1 =
     ap (λ (x : List ℕ). tag ∷ x) (t.0 ∙ rw (append_assoc, take-append-drop, len) refl) in
-    subst (λ (q : Part). (tag ∷ after ≡ element q.tag q.content ++ q.rest) × IsTag q.tag × (length q.content ≤ 16777215)) same (whole, eqb-false _ _ g.0, omega (arith, t.1))
+    subst (λ (q : Part). (tag ∷ after ≡ element q.tag q.content ++ q.rest) × IsTag q.tag × (length q.content ≤ MOST_CONTENT)) same (whole, eqb-false _ _ g.0, omega (arith, t.1))
 
 pub element_begins : (bytes : List ℕ) (p : Part) → IsBytes bytes → element_at bytes ≡ Ok p → Begins bytes p.tag p.content p.rest
 element_begins bytes p fits e =
@@ -61,7 +62,7 @@ begins_same bytes a b c d x y one other =
     let same = same_part (element_at bytes) (record { tag = a; content = c; rest = x }) (record { tag = b; content = d; rest = y }) (begins_again bytes a c x one) (begins_again bytes b d y other) in
     record { tag = ap (λ (p : Part). p.tag) same; content = ap (λ (p : Part). p.content) same; rest = ap (λ (p : Part). p.rest) same }
 
-pub element_split : (a b : ℕ) (c d x y : List ℕ) → IsTag a → IsTag b → length c ≤ 16777215 → length d ≤ 16777215 → element a c ++ x ≡ element b d ++ y → SameElement a b c d x y
+pub element_split : (a b : ℕ) (c d x y : List ℕ) → IsTag a → IsTag b → length c ≤ MOST_CONTENT → length d ≤ MOST_CONTENT → element a c ++ x ≡ element b d ++ y → SameElement a b c d x y
 element_split a b c d x y low_a low_b few_c few_d same =
     begins_same (element a c ++ x) a b c d x y (record { octets = refl; low = low_a; few = few_c }) (record { octets = same; low = low_b; few = few_d })
 

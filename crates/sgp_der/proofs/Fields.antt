@@ -10,6 +10,7 @@ use Rattle.sgp_der.specs.Reading.{Part, element_at}
 use Rattle.sgp_der.proofs.Lengths.{IsBytes}
 use Rattle.sgp_der.proofs.Elements.{element_takes, element_again}
 use Rattle.sgp_der.specs.Fields.{◌>>=◌, part_of, part_at, tagged, field_at, ended, only_at}
+use Rattle.sgp_der.specs.declared.form.TheConstants.{MOST_CONTENT}
 
 -- the value of a step that did not fail
 pub bind_some : {A B : Type 0} (r : Option A) (f : A → Option B) (y : B) → (r >>= f) ≡ Some y → (x : A) × (r ≡ Some x) × (f x ≡ Some y)
@@ -40,7 +41,7 @@ pub record IsField (tag : ℕ) (bytes : List ℕ) (p : Part) : Type 0 where
   pub parts : bytes ≡ element tag p.content ++ p.rest
   pub content : IsBytes p.content
   pub rest : IsBytes p.rest
-  pub few : length p.content ≤ 16777215
+  pub few : length p.content ≤ MOST_CONTENT
 
 content_fits : (tag : ℕ) (content rest : List ℕ) → IsBytes (element tag content ++ rest) → IsBytes content
 unfolding element
@@ -65,10 +66,10 @@ field_takes tag bytes p fits e =
     let t = part_takes bytes a.0 fits a.1 in
     subst (λ (q : Part). IsField tag bytes q) g.1 (rw same at t)
 
-pub part_again : (tag : ℕ) (content rest : List ℕ) → IsTag tag → length content ≤ 16777215 → part_at (element tag content ++ rest) ≡ Some (record { tag = tag; content = content; rest = rest })
+pub part_again : (tag : ℕ) (content rest : List ℕ) → IsTag tag → length content ≤ MOST_CONTENT → part_at (element tag content ++ rest) ≡ Some (record { tag = tag; content = content; rest = rest })
 part_again tag content rest low few = rw (element_again tag content rest low few) refl
 
-pub field_again : (tag : ℕ) (content rest : List ℕ) → IsTag tag → length content ≤ 16777215 → field_at tag (element tag content ++ rest) ≡ Some (record { tag = tag; content = content; rest = rest })
+pub field_again : (tag : ℕ) (content rest : List ℕ) → IsTag tag → length content ≤ MOST_CONTENT → field_at tag (element tag content ++ rest) ≡ Some (record { tag = tag; content = content; rest = rest })
 unfolding field_at
 field_again tag content rest low few = rw (part_again tag content rest low few, eq-eqb tag tag refl) refl
 
@@ -76,7 +77,7 @@ pub nothing : (xs : List ℕ) (u : Unit {0}) → ended xs ≡ Some u → xs ≡ 
 nothing [] u e = refl
 nothing (x ∷ xs) u e = absurd cc
 
-pub only_takes : (tag : ℕ) (bytes content : List ℕ) → IsBytes bytes → only_at tag bytes ≡ Some content → (bytes ≡ element tag content) × IsBytes content × (length content ≤ 16777215)
+pub only_takes : (tag : ℕ) (bytes content : List ℕ) → IsBytes bytes → only_at tag bytes ≡ Some content → (bytes ≡ element tag content) × IsBytes content × (length content ≤ MOST_CONTENT)
 unfolding only_at
 only_takes tag bytes content fits e =
     let a = bind_some (field_at tag bytes) _ content e in
@@ -84,9 +85,9 @@ only_takes tag bytes content fits e =
     let t = field_takes tag bytes a.0 fits a.1 in
     let same : a.0.content ≡ content = cc in
     let none : a.0.rest ≡ [] = nothing a.0.rest b.0 b.1 in
-    subst (λ (c : List ℕ). (bytes ≡ element tag c) × IsBytes c × (length c ≤ 16777215)) same (t.parts ∙ ap (λ (r : List ℕ). element tag a.0.content ++ r) none ∙ append-nil _, t.content, t.few)
+    subst (λ (c : List ℕ). (bytes ≡ element tag c) × IsBytes c × (length c ≤ MOST_CONTENT)) same (t.parts ∙ ap (λ (r : List ℕ). element tag a.0.content ++ r) none ∙ append-nil _, t.content, t.few)
 
-pub only_again : (tag : ℕ) (content : List ℕ) → IsTag tag → length content ≤ 16777215 → only_at tag (element tag content) ≡ Some content
+pub only_again : (tag : ℕ) (content : List ℕ) → IsTag tag → length content ≤ MOST_CONTENT → only_at tag (element tag content) ≡ Some content
 unfolding only_at
 only_again tag content low few =
     let e : field_at tag (element tag content) ≡ Some (record { tag = tag; content = content; rest = [] }) = ap (field_at tag) (sym (append-nil (element tag content))) ∙ field_again tag content [] low few in

@@ -3,28 +3,29 @@ use Rattle.std.proofs.Common.{◌≡◌, ℕ, ◌<◌, ◌≤◌, List, [], ◌�
 use Rattle.std.proofs.lemmas.Bool.Decides.{nat_tests}
 use Rattle.sgp_der.specs.Element.{len_octets}
 use Rattle.sgp_der.specs.Reading.{len_at, one_at, two_at, three_at}
+use Rattle.sgp_der.specs.declared.form.TheConstants.{MOST_CONTENT}
 
 -- each is an octet
 abbrev pub IsBytes : List ℕ → Type 0
 IsBytes bytes = (i : ℕ) → get_or bytes i 0 < 256
 
-pub len_again : (n : ℕ) (tail : List ℕ) → n ≤ 16777215 → len_at (len_octets n ++ tail) ≡ Ok (n, tail)
+pub len_again : (n : ℕ) (tail : List ℕ) → n ≤ MOST_CONTENT → len_at (len_octets n ++ tail) ≡ Ok (n, tail)
 unfolding len_at len_octets
 len_again n tail le = grind (arith, nat_tests)
 
-one_spelled : (a : ℕ) (rest : List ℕ) (x : ℕ × List ℕ) → a < 256 → one_at (a ∷ rest) ≡ Ok x → (129 ∷ a ∷ rest ≡ len_octets x.0 ++ x.1) × (x.0 ≤ 16777215)
+one_spelled : (a : ℕ) (rest : List ℕ) (x : ℕ × List ℕ) → a < 256 → one_at (a ∷ rest) ≡ Ok x → (129 ∷ a ∷ rest ≡ len_octets x.0 ++ x.1) × (x.0 ≤ MOST_CONTENT)
 unfolding len_octets
 one_spelled a rest x fits e = grind (arith, nat_tests)
 
-two_spelled : (a b : ℕ) (rest : List ℕ) (x : ℕ × List ℕ) → a < 256 → b < 256 → two_at (a ∷ b ∷ rest) ≡ Ok x → (130 ∷ a ∷ b ∷ rest ≡ len_octets x.0 ++ x.1) × (x.0 ≤ 16777215)
+two_spelled : (a b : ℕ) (rest : List ℕ) (x : ℕ × List ℕ) → a < 256 → b < 256 → two_at (a ∷ b ∷ rest) ≡ Ok x → (130 ∷ a ∷ b ∷ rest ≡ len_octets x.0 ++ x.1) × (x.0 ≤ MOST_CONTENT)
 unfolding len_octets
 two_spelled a b rest x fa fb e = grind (arith, nat_tests)
 
-three_spelled : (a b c : ℕ) (rest : List ℕ) (x : ℕ × List ℕ) → a < 256 → b < 256 → c < 256 → three_at (a ∷ b ∷ c ∷ rest) ≡ Ok x → (131 ∷ a ∷ b ∷ c ∷ rest ≡ len_octets x.0 ++ x.1) × (x.0 ≤ 16777215)
+three_spelled : (a b c : ℕ) (rest : List ℕ) (x : ℕ × List ℕ) → a < 256 → b < 256 → c < 256 → three_at (a ∷ b ∷ c ∷ rest) ≡ Ok x → (131 ∷ a ∷ b ∷ c ∷ rest ≡ len_octets x.0 ++ x.1) × (x.0 ≤ MOST_CONTENT)
 unfolding len_octets
 three_spelled a b c rest x fa fb fc e = grind (arith, nat_tests)
 
-pub len_takes : (bytes : List ℕ) (x : ℕ × List ℕ) → IsBytes bytes → len_at bytes ≡ Ok x → (bytes ≡ len_octets x.0 ++ x.1) × (x.0 ≤ 16777215)
+pub len_takes : (bytes : List ℕ) (x : ℕ × List ℕ) → IsBytes bytes → len_at bytes ≡ Ok x → (bytes ≡ len_octets x.0 ++ x.1) × (x.0 ≤ MOST_CONTENT)
 unfolding len_at len_octets
 len_takes [] x fits e = absurd cc
 len_takes (f ∷ []) x fits e = grind (arith, nat_tests)

@@ -1,5 +1,6 @@
 -- One element: a tag octet, the shortest length, and the content (X.690, at most three length octets).
 use Rattle.std.specs.Prelude.{◌≡◌, ◌≢◌, ℕ, ◌/◌, ◌%◌, ◌≤◌, nat_lt, List, [], ◌∷◌, ◌++◌, length, if◌then◌else◌}
+use Rattle.sgp_der.specs.declared.form.TheConstants.{MOST_CONTENT}
 
 -- the octets of a length: alone below 128, else after 81, 82 or 83, the highest first
 unfoldable pub len_octets : ℕ → List ℕ
@@ -21,13 +22,13 @@ element tag content = tag ∷ (len_octets (length content) ++ content)
 pub record Tlv (bytes : List ℕ) (tag : ℕ) (content : List ℕ) : Type 0 where
   pub octets : bytes ≡ element tag content
   pub low : IsTag tag
-  pub few : length content ≤ 16777215
+  pub few : length content ≤ MOST_CONTENT
 
 -- the bytes begin with one element of this tag and content, and `rest` follows
 pub record Begins (bytes : List ℕ) (tag : ℕ) (content rest : List ℕ) : Type 0 where
   pub octets : bytes ≡ element tag content ++ rest
   pub low : IsTag tag
-  pub few : length content ≤ 16777215
+  pub few : length content ≤ MOST_CONTENT
 
 -- two elements, and what follows each, are the same
 pub record SameElement (a b : ℕ) (c d x y : List ℕ) : Type 0 where

@@ -5,11 +5,12 @@ use Rattle.sgp_der.specs.Element.{element, IsTag, SameElement}
 use Rattle.sgp_der.specs.Fields.{field_at}
 use Rattle.sgp_der.specs.Number.{IsUint}
 use Rattle.sgp_der.specs.Reading.{element_at}
+use Rattle.sgp_der.specs.declared.form.TheConstants.{MOST_CONTENT}
 
 -- the bytes of an element determine its tag and content, and no element is a proper prefix of another
 abbrev pub ElementsSplit : Type 0
 ElementsSplit =
-    (a b : ℕ) (c d x y : List ℕ) → IsTag a → IsTag b → length c ≤ 16777215 → length d ≤ 16777215
+    (a b : ℕ) (c d x y : List ℕ) → IsTag a → IsTag b → length c ≤ MOST_CONTENT → length d ≤ MOST_CONTENT
     → element a c ++ x ≡ element b d ++ y → SameElement a b c d x y
 
 -- an element is read again, whatever follows

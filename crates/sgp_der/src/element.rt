@@ -7,13 +7,14 @@ use crate::form::{
     FROM_ONE_OCTET, FROM_THREE_OCTETS, FROM_TWO_OCTETS, ONE_OCTET, TAG_NUMBER, THREE_OCTETS,
     TWO_OCTETS,
 };
+use thiserror::Error;
 
 /// One element, and what follows it.
 #[derive(Clone, Copy, Debug)]
 pub struct Tlv<'a> {
     /// The tag octet: its low five bits aren't all set.
     pub tag: u8,
-    /// The content, of at most 16,777,215 octets.
+    /// The content, of at most [`MOST_CONTENT`](crate::MOST_CONTENT) octets.
     pub content: &'a [u8],
     /// The octets behind the element.
     pub rest: &'a [u8],
@@ -21,15 +22,18 @@ pub struct Tlv<'a> {
 
 /// Why the octets begin with no element. Where several hold, the one that is
 /// met first from the left.
-#[derive(Clone, Copy, Debug, PartialEq, Eq)]
+#[derive(Clone, Copy, Debug, PartialEq, Eq, Error)]
 pub enum DerFault {
     /// The octets end before the element does.
+    #[error("the octets end before the element does")]
     Short,
     /// The length isn't definite, has more than three octets, or isn't said in
     /// the fewest octets.
+    #[error("the length is in no form that is read")]
     LongForm,
     /// The tag has more than one octet: the low five bits of the first are all
     /// set.
+    #[error("the tag has more than one octet")]
     Tag,
 }
 

@@ -13,6 +13,12 @@ pub(crate) const TWO_OCTETS: u8 = 0x82;
 /// Stands before a length of three octets.
 pub(crate) const THREE_OCTETS: u8 = 0x83;
 
+/// The greatest content of an element, in octets: what three octets of length can say.
+pub const MOST_CONTENT: usize = 0xff_ffff;
+
+/// The most octets that stand before a content: a tag and four of length.
+pub const MOST_HEAD: usize = 5;
+
 /// The least length that needs one octet after `ONE_OCTET`.
 pub(crate) const FROM_ONE_OCTET: usize = 0x80;
 

@@ -10,10 +10,11 @@ mod number;
 mod put;
 
 pub use element::{DerFault, Tlv, field, next, only};
+pub use form::{MOST_CONTENT, MOST_HEAD};
 pub use laws::{
     elements_read_again, elements_split, integers_have_one_content, integers_read_again,
 };
-pub use number::{uint, uint_len};
+pub use number::{MOST_UINT, uint, uint_len};
 pub use put::{head_len, put_head, put_octets, put_uint};
 
 #[cfg(test)]

@@ -1,8 +1,8 @@
 ghost use Rattle.std.specs.Prelude.{◌≡◌, ◌<◌, ◌^◌, ◌≤◌, ℕ, MatchOption, length as size};
 ghost use Rattle.sgp_der.specs.Number.{IsUint, value_from, uint, uint_of};
 
-/// The most octets of a content: those of a `u64`, and one for the sign bit.
-const MOST_OCTETS: usize = 9;
+/// The most octets of an integer's content: those of a `u64`, and one for the sign bit.
+pub const MOST_UINT: usize = 9;
 /// The least octet whose first bit is set.
 const HIGH: u8 = 0x80;
 
@@ -11,7 +11,7 @@ pub(crate) const FROM_TWO: u64 = 0x80;
 
 // The number of at most nine octets.
 fn value(content: &[u8]) -> u128
-    requires { size content.now ≤ 9 }
+    requires { size content.now ≤ MOST_UINT }
     ensures { result ≡ value_from 0 content.now }
 {
     let mut n: u128 = 0;
@@ -36,7 +36,7 @@ pub fn uint(content: &[u8]) -> Option<u64>
         [0, second, ..] if *second < HIGH => return None,
         _ => {}
     }
-    if content.len() > MOST_OCTETS {
+    if content.len() > MOST_UINT {
         return None;
     }
     let n = value(content);
@@ -49,7 +49,7 @@ pub fn uint(content: &[u8]) -> Option<u64>
 /// How many octets the content of an integer has: 1 to 9.
 pub fn uint_len(n: u64) -> usize
     ensures len { result ≡ size (uint n) }
-    ensures few { result ≤ 9 }
+    ensures few { result ≤ MOST_UINT }
 {
     let mut len = 1;
     let mut left = n;

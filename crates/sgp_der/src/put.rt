@@ -3,17 +3,18 @@ ghost use Rattle.sgp_der.specs.Element.{len_octets, element, IsTag};
 ghost use Rattle.sgp_der.specs.Number.{uint};
 
 use crate::form::{
-    FROM_ONE_OCTET, FROM_THREE_OCTETS, FROM_TWO_OCTETS, ONE_OCTET, THREE_OCTETS, TWO_OCTETS,
+    FROM_ONE_OCTET, FROM_THREE_OCTETS, FROM_TWO_OCTETS, MOST_CONTENT, MOST_HEAD, ONE_OCTET,
+    THREE_OCTETS, TWO_OCTETS,
 };
-use crate::number::{FROM_TWO, uint_len};
+use crate::number::{FROM_TWO, MOST_UINT, uint_len};
 use iot_bytes::{NoMemory, Row};
 
 /// How many octets stand before a content of this length: its tag and length.
 #[tactic(auto, unfolding(crate::specs::Element::len_octets))]
 pub fn head_len(len: usize) -> usize
-    requires { len ≤ 16777215 }
+    requires { len ≤ MOST_CONTENT }
     ensures len { result ≡ 1 + length (len_octets len) }
-    ensures few { result ≤ 5 }
+    ensures few { result ≤ MOST_HEAD }
 {
     if len < FROM_ONE_OCTET {
         2
@@ -31,9 +32,9 @@ pub fn head_len(len: usize) -> usize
 #[tactic(auto, unfolding(crate::specs::Element::len_octets))]
 pub fn put_head(out: &mut Row<u8>, tag: u8, len: usize) -> Result<(), NoMemory>
     requires tag { IsTag tag }
-    requires len { len ≤ 16777215 }
+    requires len { len ≤ MOST_CONTENT }
     ensures ok { OnOk result (out.new ≡ out.old ++ tag ∷ len_octets len) }
-    ensures len { length out.new ≤ length out.old + 5 }
+    ensures len { length out.new ≤ length out.old + MOST_HEAD }
     ensures err { OnErr result (out.new ≡ out.old) }
 {
     if len < FROM_ONE_OCTET {
@@ -58,9 +59,9 @@ pub fn put_head(out: &mut Row<u8>, tag: u8, len: usize) -> Result<(), NoMemory>
 #[tactic(auto, unfolding(crate::specs::Element::element))]
 pub fn put_octets(out: &mut Row<u8>, tag: u8, content: &[u8]) -> Result<(), NoMemory>
     requires tag { IsTag tag }
-    requires len { length content.now ≤ 16777215 }
+    requires len { length content.now ≤ MOST_CONTENT }
     ensures ok { OnOk result (out.new ≡ out.old ++ element tag content.now) }
-    ensures len { length out.new ≤ length out.old + length content.now + 5 }
+    ensures len { length out.new ≤ length out.old + length content.now + MOST_HEAD }
     ensures err { OnErr result (out.new ≡ out.old) }
 {
     let before = out.len();
@@ -89,7 +90,7 @@ fn put_number(out: &mut Row<u8>, n: u64) -> Result<(), NoMemory>
 pub fn put_uint(out: &mut Row<u8>, tag: u8, n: u64) -> Result<(), NoMemory>
     requires { IsTag tag }
     ensures ok { OnOk result (out.new ≡ out.old ++ element tag (uint n)) }
-    ensures len { length out.new ≤ length out.old + 11 }
+    ensures len { length out.new ≤ length out.old + 2 + MOST_UINT }
     ensures err { OnErr result (out.new ≡ out.old) }
 {
     let before = out.len();

@@ -2,6 +2,7 @@ use Rattle.std.proofs.Common.{◌≡◌, ℕ, List, ◌++◌, ◌∷◌, ◌<◌
 use Rattle.std.specs.Result.{is_err}
 use Rattle.sgp_der.specs.Element.{len_octets}
 use Rattle.sgp_der.specs.Number.{uint}
+use Rattle.sgp_der.specs.declared.number.TheConstants.{MOST_UINT}
 use Rattle.sgp_der.proofs.Lengths.{len_low}
 use Rattle.sgp_der.proofs.Values.{uint_few}
 use Rattle.sgp_der.proofs.put.put_uint.Goals as goal
@@ -10,7 +11,7 @@ given : {T E P : Type 0} (r : Result T E) → is_err r ≡ false → OnOk r P �
 given (Ok x) e h = h
 given (Err x) e h = absurd cc
 
-grown : (old out new : List ℕ) (tag len n : ℕ) → n < 2 ^ 64 → len ≤ 9 → out ≡ old ++ tag ∷ len_octets len → new ≡ out ++ uint n → length new ≤ length old + 11
+grown : (old out new : List ℕ) (tag len n : ℕ) → n < 2 ^ 64 → len ≤ 9 → out ≡ old ++ tag ∷ len_octets len → new ≡ out ++ uint n → length new ≤ length old + 2 + MOST_UINT
 grown old out new tag len n fits few head number =
     let low = ap length (len_low len (omega arith)) in
     omega (arith, ap length head, ap length number, length-append old (tag ∷ len_octets len), length-append out (uint n), uint_few n fits)
