@@ -3,9 +3,9 @@ pub mod Causes
 pub mod Decimals
 pub mod Fill
 pub mod Frames
-pub mod Held
+pub mod Reserved
 pub mod Hexes
 pub mod Lines
 pub mod Streams
-pub mod Tape
+pub mod InMemory
 pub mod Tokens

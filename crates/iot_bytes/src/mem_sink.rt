@@ -3,7 +3,7 @@
 ghost use Rattle.std.specs.Prelude.{◌≡◌, ◌<◌, ◌≤◌, ◌-◌, ◌↔◌, ◌⊎◌, [], IsErr, IfOk, OnErr, Contains, min, List, ℕ, length, Some, Option, None};
 ghost use Rattle.iot_bytes.specs.Causes.{Counts, HasCause};
 ghost use Rattle.iot_bytes.specs.Streams.{Writes};
-ghost use Rattle.iot_bytes.specs.Tape.{ShelfCalled};
+ghost use Rattle.iot_bytes.specs.InMemory.{OutputCalled};
 
 use crate::memory::NoMemory;
 use crate::reserve::Reserve;
@@ -26,9 +26,9 @@ pub struct MemSink {
 
 impl Model for MemSink {
     ghost use Rattle.std.specs.Prelude.{◌≤◌, ◌+◌, length};
-    ghost use Rattle.iot_bytes.specs.Tape.{Shelf};
+    ghost use Rattle.iot_bytes.specs.InMemory.{MemOutput};
 
-    ghost Value = { Shelf };
+    ghost Value = { MemOutput };
 
     ghost view = { λ s. record { taken = s.taken.items; room = s.room; piece = s.piece; failing = s.failing; calls = s.calls; faults = s.faults } };
 
@@ -80,7 +80,7 @@ impl Sink for MemSink {
         ensures cause { HasCause self.old.faults self.new.faults result }
         ensures fails { IsErr result ↔ (Contains self.old.failing self.old.calls ⊎ (length self.old.taken ≡ self.old.room)) }
         ensures takes { IfOk result (λ n. n ≡ min (min (length bytes.now) self.old.piece) (self.old.room - length self.old.taken)) }
-        ensures called { ShelfCalled self.old self.new }
+        ensures called { OutputCalled self.old self.new }
         ensures counts { Counts self.old.faults self.new.faults result }
     {
         let call = self.calls;

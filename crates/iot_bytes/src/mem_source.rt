@@ -3,7 +3,7 @@
 ghost use Rattle.std.specs.Prelude.{◌≡◌, ◌<◌, ◌≤◌, ◌↔◌, IsErr, IfOk, Contains, min, List, ℕ, length, Some, Option, None, drop};
 ghost use Rattle.iot_bytes.specs.Causes.{Counts, HasCause};
 ghost use Rattle.iot_bytes.specs.Streams.{Reads};
-ghost use Rattle.iot_bytes.specs.Tape.{TapeCalled};
+ghost use Rattle.iot_bytes.specs.InMemory.{InputCalled};
 
 use crate::row::Row;
 use crate::source::{Failed, Source};
@@ -22,9 +22,9 @@ pub struct MemSource {
 
 impl Model for MemSource {
     ghost use Rattle.std.specs.Prelude.{◌≤◌, drop, length};
-    ghost use Rattle.iot_bytes.specs.Tape.{Tape};
+    ghost use Rattle.iot_bytes.specs.InMemory.{MemInput};
 
-    ghost Value = { Tape };
+    ghost Value = { MemInput };
 
     ghost view = { λ s. record { left = drop s.at s.bytes; piece = s.piece; failing = s.failing; calls = s.calls; faults = s.faults } };
 
@@ -63,7 +63,7 @@ impl Source for MemSource {
         ensures cause { HasCause self.old.faults self.new.faults result }
         ensures fails { IsErr result ↔ Contains self.old.failing self.old.calls }
         ensures gives { IfOk result (λ n. n ≡ min (min (length out.new) self.old.piece) (length self.old.left)) }
-        ensures called { TapeCalled self.old self.new }
+        ensures called { InputCalled self.old self.new }
         ensures counts { Counts self.old.faults self.new.faults result }
     {
         let call = self.calls;

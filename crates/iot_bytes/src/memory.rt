@@ -4,9 +4,11 @@ ghost use Rattle.std.specs.Prelude.{◌≡◌};
 ghost use Rattle.iot_bytes.specs.declared.memory.ReadError.TheVariants.{NoMemory};
 
 use std::alloc::{AllocError, AllocFailed};
+use thiserror::Error;
 
 /// Memory ran out.
-#[derive(Clone, Copy, Debug, PartialEq, Eq)]
+#[derive(Clone, Copy, Debug, PartialEq, Eq, Error)]
+#[error("memory ran out")]
 pub struct NoMemory;
 
 impl From<AllocError> for NoMemory {
@@ -22,11 +24,13 @@ impl<T: Drop> From<AllocFailed<T>> for NoMemory {
 }
 
 /// Why a reader gives no value.
-#[derive(Clone, Copy, Debug, PartialEq, Eq)]
+#[derive(Clone, Copy, Debug, PartialEq, Eq, Error)]
 pub enum ReadError {
     /// The octets spell no value.
+    #[error("the octets spell no value")]
     Malformed,
     /// Memory ran out.
+    #[error("memory ran out")]
     NoMemory,
 }
 

@@ -19,11 +19,11 @@ pub struct Reserve<T> {
 
 impl<T> Model for Reserve<T> {
     ghost use Rattle.std.specs.Prelude.{◌-◌, ◌≤◌, vec_len, vec_capacity};
-    ghost use Rattle.iot_bytes.specs.Held.{Held, held_code};
+    ghost use Rattle.iot_bytes.specs.Reserved.{Reserved, reserved_code};
 
-    ghost Value = { Held T };
+    ghost Value = { Reserved T };
 
-    ghost coded = { held_code T.code };
+    ghost coded = { reserved_code T.code };
 
     ghost view = { λ row. record { items = row.inner.items; spare = vec_capacity row.inner - vec_len row.inner } };
 }

@@ -5,6 +5,7 @@ ghost use Rattle.iot_bytes.specs.Causes.{HasCause, Rose};
 ghost use Rattle.iot_bytes.specs.Streams.{Writes, Sends};
 
 use crate::source::Failed;
+use thiserror::Error;
 
 /// Where octets go.
 ///
@@ -28,7 +29,8 @@ pub trait Sink {
 }
 
 /// The sink failed.
-#[derive(Clone, Copy, Debug, PartialEq, Eq)]
+#[derive(Clone, Copy, Debug, PartialEq, Eq, Error)]
+#[error("the sink failed after {sent} octets")]
 pub struct WriteFault {
     /// How many octets, from the first on, the sink had taken before.
     pub sent: usize,

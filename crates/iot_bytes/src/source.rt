@@ -4,8 +4,11 @@ ghost use Rattle.std.specs.Prelude.{◌≡◌, ℕ, ◌+◌, ◌<◌, ◌≤◌,
 ghost use Rattle.iot_bytes.specs.Causes.{HasCause};
 ghost use Rattle.iot_bytes.specs.Streams.{Reads};
 
+use thiserror::Error;
+
 /// The outside failed. It is answered only by a call whose object raised its count of faults.
-#[derive(Clone, Copy, Debug, PartialEq, Eq)]
+#[derive(Clone, Copy, Debug, PartialEq, Eq, Error)]
+#[error("the source or sink failed")]
 pub struct Failed;
 
 /// Where octets come from.
