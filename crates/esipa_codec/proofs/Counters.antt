@@ -5,7 +5,8 @@ use Rattle.std.proofs.lemmas.Bool.{cond_both, cond-true, eqb-true, eq-eqb, ltb-t
 use Rattle.small_card.specs.Lists.{same, greatest, Every, EveryPair}
 use Rattle.small_card.specs.declared.types.Body.{Body}
 use Rattle.small_card.proofs.ListLemmas.{every_mono, every_all, every_push, pair_push}
-use Rattle.esipa_codec.specs.Eims.{EimState, Order, greatest_counter, new_eim, counters_of, bound_to, ordered_by, ordered, waits, skip_first, skipped, heard}
+use Rattle.small_card.specs.Ranges.{greatest_counter}
+use Rattle.esipa_codec.specs.Eims.{EimState, Order, new_eim, counters_of, bound_to, ordered_by, ordered, waits, skip_first, skipped, heard}
 use Rattle.esipa_codec.specs.Events.{EimEvent, bind, order, skip, message, after_event, after_events}
 use Rattle.esipa_codec.specs.declared.ends.Binding.{Binding}
 use Rattle.esipa_codec.specs.declared.messages.ToEim.{ToEim}

@@ -5,7 +5,8 @@ use Rattle.std.proofs.lemmas.Bool.{cond_both, cond-true, eq-eqb, ltb-true}
 use Rattle.small_card.specs.Lists.{same, greatest}
 use Rattle.small_card.specs.declared.types.Body.{Body}
 use Rattle.small_card.specs.declared.types.PackageResult.{PackageResult}
-use Rattle.esipa_codec.specs.Eims.{EimState, greatest_counter, counters_of, bound_to, ordered_by, ordered, skipped, heard}
+use Rattle.small_card.specs.Ranges.{greatest_counter}
+use Rattle.esipa_codec.specs.Eims.{EimState, counters_of, bound_to, ordered_by, ordered, skipped, heard}
 use Rattle.esipa_codec.specs.Events.{EimEvent, bind, order, skip, message, after_event}
 use Rattle.esipa_codec.specs.Records.{is_of, greater, record_of}
 use Rattle.esipa_codec.specs.declared.ends.Binding.{Binding}

@@ -1,8 +1,9 @@
 -- An eIM: what it is bound to, all orders, all results of its identifier that it received, and all
 -- refusals. Its records and the orders that wait are looked up.
-use Rattle.std.specs.Prelude.{ℕ, ◌+◌, ◌-◌, ◌^◌, List, [], ◌∷◌, ◌++◌, map, filter, not, nat_lt, ◌==◌, ◌&&◌, Bool, true, false, if◌then◌else◌, Option, Some, None}
+use Rattle.std.specs.Prelude.{ℕ, ◌+◌, List, [], ◌∷◌, ◌++◌, map, filter, not, nat_lt, ◌==◌, ◌&&◌, Bool, true, false, if◌then◌else◌, Option, Some, None}
 use Rattle.std.specs.List.{find}
 use Rattle.small_card.specs.Lists.{same, greatest}
+use Rattle.small_card.specs.Ranges.{greatest_counter}
 use Rattle.small_card.specs.declared.types.Body.{Body}
 use Rattle.small_card.specs.declared.types.PackageResult.{PackageResult}
 use Rattle.small_card.specs.declared.types.Refused.{Refused}
@@ -40,9 +41,6 @@ pub record EimState : Type 0 where
 -- A new eIM is unbound, and nothing was ordered or received.
 abbrev pub new_eim : List ℕ → List ℕ → EimState
 new_eim id eid = record { id = id; eid = eid; bound = None; orders = []; received = []; refusals = [] }
-
-abbrev pub greatest_counter : ℕ
-greatest_counter = 2 ^ 63 - 1
 
 -- The counters of the orders of an association.
 unfoldable pub counters_of : ℕ → List Order → List ℕ

@@ -9,7 +9,7 @@ abbrev pub is_of : ℕ → ℕ → PackageResult → Bool
 is_of association counter r = r.association == association && r.counter == counter
 
 -- A result of this association and counter was received.
-unfoldable pub is_recorded : ℕ → ℕ → List PackageResult → Bool
+abbrev pub is_recorded : ℕ → ℕ → List PackageResult → Bool
 is_recorded association counter received = list_any (is_of association counter) received
 
 -- Of a result and the record of the older ones: the greater number, and of equal numbers the older.
