@@ -1,0 +1,14 @@
+pub mod FixedFields
+pub mod Many
+pub mod Sections
+pub mod Sorting
+pub mod ResultSlots
+pub mod Parts
+pub mod Whole
+pub mod Appending
+pub mod Written
+pub mod Placing
+pub mod Clauses
+pub mod Laid
+pub mod Seating
+pub mod Numbering

@@ -1,0 +1,186 @@
+use super::*;
+use iot_bytes::{ReadError, Row};
+use std::alloc::Global;
+use std::test::Fail;
+
+const EID: [u8; 16] = [0, 1, 2, 3, 4, 5, 6, 7, 8, 9, 10, 11, 12, 13, 14, 15];
+
+const A: [u8; 10] = [0x98, 0x44, 0, 0, 0, 0, 0, 0, 0, 1];
+
+const B: [u8; 10] = [0x98, 0x44, 0, 0, 0, 0, 0, 0, 0, 2];
+
+/// Where slots begin.
+const PROFILE: usize = 256;
+
+const EIM: usize = 2_304;
+
+const RESULT: usize = 6_400;
+
+/// The result with number 2, and the marked one with number 3: one enable that was done.
+const SECOND: [u8; 26] = [
+    0, 0, 0, 22, 0x30, 0x14, 0x80, 1, 2, 0x81, 2, b'e', b'1', 0x82, 1, 1, 0x83, 1, 1, 0xa4, 5,
+    0xa0, 3, 0x80, 1, 0,
+];
+
+const MARKED: [u8; 28] = [
+    0, 0, 0, 24, 0x30, 0x16, 0x80, 1, 3, 0x81, 2, b'e', b'1', 0x82, 1, 1, 0x83, 1, 1, 0xa4, 5,
+    0xa0, 3, 0x80, 1, 0, 0x85, 0,
+];
+
+// Zeros until the row has so many octets.
+fn fill(out: &mut Row<u8>, until: usize) -> Result<(), Fail> {
+    for _ in out.len()..until {
+        out.append(&[0])?;
+    }
+    Ok(())
+}
+
+// The home of a card that was just personalised with the profile A.
+fn fresh_home(alloc: Global) -> Result<Row<u8>, Fail> {
+    let mut out = Row::new(alloc);
+    out.append(&[1])?;
+    out.append(&EID)?;
+    out.append(&[1, 0, 0, 0, 0, 1, 0, 0, 0, 1, 0])?;
+    fill(&mut out, PROFILE)?;
+    out.append(&A)?;
+    fill(&mut out, HOME)?;
+    Ok(out)
+}
+
+fn put_eims(out: &mut Row<u8>) -> Result<(), Fail> {
+    out.append(&[2, b'e', b'1'])?;
+    fill(out, EIM + 129)?;
+    out.append(&[1, b'/'])?;
+    fill(out, EIM + 258)?;
+    out.append(&[1, 7])?;
+    fill(out, EIM + 387)?;
+    out.append(&[0, 0, 0, 0, 0, 0, 0, 5, 0, 0, 0, 1])?;
+    fill(out, EIM + 512)?;
+    out.append(&[2, b'e', b'2'])?;
+    fill(out, EIM + 512 + 395)?;
+    out.append(&[0, 0, 0, 2])?;
+    fill(out, RESULT)
+}
+
+// The home of a card with two profiles, two eIMs and two results, armed; the results in two slots.
+fn full_home(alloc: Global, slots: [&[u8]; 3]) -> Result<Row<u8>, Fail> {
+    let mut out = Row::new(alloc);
+    out.append(&[1])?;
+    out.append(&EID)?;
+    out.append(&[2, 2, 0, 0, 0, 3, 0, 0, 0, 4, 1])?;
+    out.append(&B)?;
+    out.append(&[0, 0, 0, 2])?;
+    fill(&mut out, PROFILE)?;
+    out.append(&A)?;
+    out.append(&[1, 2, b'h', b'i'])?;
+    fill(&mut out, PROFILE + 128)?;
+    out.append(&B)?;
+    fill(&mut out, EIM)?;
+    put_eims(&mut out)?;
+    for slot in slots {
+        let end = out.len().saturating_add(RESULT_SLOT);
+        out.append(slot)?;
+        fill(&mut out, end)?;
+    }
+    fill(&mut out, HOME)?;
+    Ok(out)
+}
+
+// The home of the card that is read, as it is written; none where no card is read.
+fn written(alloc: Global, home: &[u8]) -> Result<Option<Row<u8>>, Fail> {
+    match read_card(alloc, home) {
+        Ok(card) => Ok(Some(home_octets(alloc, &card)?)),
+        Err(ReadError::Malformed) => Ok(None),
+        Err(ReadError::NoMemory) => Err("memory ran out".into()),
+    }
+}
+
+#[test]
+fn homes_of_cards(rt: HostRuntime) -> Result<(), Fail> {
+    let alloc = rt.alloc();
+    let fresh = fresh_home(alloc)?;
+    let full = full_home(alloc, [&SECOND, &MARKED, &[]])?;
+    // Other slots, and octets behind what is looked at.
+    let mut more = Row::new(alloc);
+    more.append(&SECOND)?;
+    more.append(&[9, 9])?;
+    let turned = full_home(alloc, [&MARKED, &[0, 0, 0, 0, 9], more.as_slice()])?;
+    for (home, wanted) in [(&fresh, &fresh), (&full, &full), (&turned, &full)] {
+        let again = written(alloc, home.as_slice())?.ok_or("it is a card's home")?;
+        assert!(rt; again.as_slice() == wanted.as_slice());
+    }
+    Ok(())
+}
+
+#[test]
+fn homes_of_no_card(rt: HostRuntime) -> Result<(), Fail> {
+    let alloc = rt.alloc();
+    let full = full_home(alloc, [&SECOND, &MARKED, &[]])?;
+    let home = full.as_slice();
+    let cases: [(usize, &[u8]); 46] = [
+        // the head
+        (0, &[2]),
+        (17, &[1]),
+        (17, &[17]),
+        (18, &[1]),
+        (18, &[9]),
+        (19, &[0, 0, 0, 0]),
+        (19, &[0, 0, 0, 2]),
+        (23, &[0, 0, 0, 3]),
+        (23, &[255, 255, 255, 255]),
+        (27, &[0]),
+        (27, &[2]),
+        (28, &[0]),
+        (38, &[0, 0, 0, 1]),
+        (38, &[0, 0, 0, 3]),
+        (42, &[1]),
+        (255, &[1]),
+        // profiles
+        (PROFILE + 10, &[2]),
+        (PROFILE + 128 + 10, &[1]),
+        (PROFILE + 128, &A),
+        (PROFILE + 11, &[65]),
+        (PROFILE + 11, &[1]),
+        (PROFILE + 12, &[255]),
+        (PROFILE + 127, &[1]),
+        (PROFILE + 256, &[1]),
+        // eIMs
+        (EIM, &[0, 0, 0]),
+        (EIM, &[129]),
+        (EIM + 1, b" "),
+        (EIM + 3, b"x"),
+        (EIM + 129, &[129]),
+        (EIM + 130, b"#"),
+        (EIM + 258, &[129]),
+        (EIM + 387, &[128]),
+        (EIM + 395, &[0, 0, 0, 0]),
+        (EIM + 395, &[0, 0, 0, 2]),
+        (EIM + 512 + 1, b"e1"),
+        (EIM + 511, &[1]),
+        (EIM + 1024, &[1]),
+        // results
+        (RESULT, &[0, 0, 0, 21]),
+        (RESULT, &[0, 0, 0, 23]),
+        (RESULT, &[0, 0, 80, 252]),
+        (RESULT, &[255, 255, 255, 255]),
+        (RESULT + 4, &[0x31]),
+        (RESULT + 8, &[0]),
+        (RESULT + 8, &[3]),
+        (RESULT + 8, &[4]),
+        (RESULT, &[0, 0, 0, 0]),
+    ];
+    for (at, octets) in cases {
+        let end = at.saturating_add(octets.len());
+        if end <= home.len() {
+            let mut broken = Row::new(alloc);
+            broken.append(&home[..at])?;
+            broken.append(octets)?;
+            broken.append(&home[end..])?;
+            assert!(rt;
+                written(alloc, broken.as_slice())?.is_none(),
+                "{octets:?} at {at}"
+            );
+        }
+    }
+    Ok(())
+}
