@@ -1,0 +1,4 @@
+pub mod Splitting
+pub mod Deciding
+pub mod Parting
+pub mod Listing

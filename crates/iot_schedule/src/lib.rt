@@ -1,0 +1,17 @@
+//! The schedule language: lines that people write, one for each thing that happens to a device, its
+//! managers and its network. `docs/SCHEDULE.md` tells it.
+//!
+//! A line is words with one space between each two. What a text spells is a function of its words
+//! (`specs/Devices.antt`, `specs/Steps.antt`); a writer's text is spelled by `specs/Spelling.antt`.
+#![tactic(auto)]
+
+mod devices;
+mod operations;
+mod steps;
+mod tokens;
+mod types;
+mod words;
+
+pub use devices::read_device;
+pub use steps::read_step;
+pub use types::{Device, Line, Pick};
