@@ -6,6 +6,7 @@ use Rattle.iot_bytes.specs.declared.memory.ReadError.TheVariants.{Malformed, NoM
 use Rattle.sgp_der.specs.Fields.{Gives}
 use Rattle.sgp_der.proofs.Lengths.{IsBytes}
 use Rattle.sgp_values.proofs.Octets.{bounds_from_AllPass}
+use Rattle.sgp_fields.specs.Fields.{Finds}
 use Rattle.sgp_fields.specs.Laws.{ReadsSpelled, ReadAgain}
 use Rattle.sgp_fields.proofs.Codecs.{IsCodec}
 use Rattle.sgp_fields.proofs.Steps.{some_is}
@@ -40,3 +41,21 @@ reads_spelled codec bytes x octets e =
 
 pub reads_again : {X : Type 0} {read : List ℕ → Option X} {spell : X → List ℕ} {Fits : X → Type 0} → IsCodec read spell Fits → ReadAgain read spell Fits
 reads_again codec = codec.again
+
+-- the same of a reader that takes no memory: what is read is spelled so
+pub found_where : {X : Type 0} {read : List ℕ → Option X} {spell : X → List ℕ} {Fits : X → Type 0} → IsCodec read spell Fits → (bytes : List ℕ) (r : Result X ReadError) → IsBytes bytes → Finds r (read bytes) → IfOk r (λ x. Fits x × (bytes ≡ spell x))
+found_where codec bytes (Ok x) fits e = let t = codec.takes bytes x fits e in (t.1, t.0)
+found_where codec bytes (Err error) fits e = tt
+
+-- what is spelled so is read
+pub only_where : {X : Type 0} {read : List ℕ → Option X} {spell : X → List ℕ} {Fits : X → Type 0} → IsCodec read spell Fits → (bytes : List ℕ) (r : Result X ReadError) → Finds r (read bytes) → (x : X) → Fits x → bytes ≡ spell x → r ≡ Ok x
+only_where {X} {read} codec bytes (Ok y) e x fits is = ap (λ (z : X). Ok z) (some_is y x (sym e ∙ ap read is ∙ codec.again x fits))
+only_where {X} {read} codec bytes (Err error) e x fits is =
+    let some : read bytes ≡ Some x = ap read is ∙ codec.again x fits in
+    absurd cc
+
+-- what isn't read is spelled by no value
+pub malformed_where : {X : Type 0} {read : List ℕ → Option X} {spell : X → List ℕ} {Fits : X → Type 0} → IsCodec read spell Fits → (bytes : List ℕ) (r : Result X ReadError) → Finds r (read bytes) → IsErrOf r Malformed → (x : X) → Fits x → bytes ≡ spell x → ⊥
+malformed_where codec bytes r e wrong x fits is =
+    let read : r ≡ Ok x = only_where codec bytes r e x fits is in
+    absurd cc

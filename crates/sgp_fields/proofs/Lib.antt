@@ -6,6 +6,7 @@ pub mod ValueCodecs
 pub mod Numbers
 pub mod Elements
 pub mod Marks
+pub mod AloneCodec
 pub mod Clauses
 pub mod Appending
 pub mod Sizes

@@ -108,3 +108,17 @@ pub fn put_list<T, W: Written<T>>(out: &mut Row<u8>, rows: &[T]) -> Result<(), N
     }
     Ok(())
 }
+
+/// Appends the entries of a list, one behind the other, or nothing where memory runs out.
+pub fn write_list<T, W: Written<T>>(out: &mut Row<u8>, rows: &[T]) -> Result<(), NoMemory>
+    requires { Every W.Fits rows.now }
+    ensures ok { OnOk result (out.new ≡ out.old ++ flat_map W.spelled rows.now) }
+    ensures err { OnErr result (out.new ≡ out.old) }
+{
+    let before = out.len();
+    if put_list::<T, W>(out, rows).is_err() {
+        out.cut(before);
+        return Err(NoMemory);
+    }
+    Ok(())
+}
