@@ -1,5 +1,4 @@
 pub mod Short
-pub mod Elements
 pub mod CommandCodec
 pub mod ResultLists
 pub mod AnswerCodec

@@ -1,51 +1,52 @@
-//! Lists of results.
-ghost use Rattle.std.specs.Prelude.{◌≡◌, ◌≤◌, ◌+◌, ◌*◌, ◌++◌, ℕ, List, take, length, OnOk, OnErr};
-ghost use Rattle.std.specs.List.{list_all};
+//! Lists of results, in rising numbers.
+
+ghost use Rattle.std.specs.Prelude.{◌≡◌, ◌≤◌, ◌+◌, ◌*◌, ◌++◌, take, length, OnOk, OnErr};
 ghost use Rattle.sgp_der.specs.Fields.{Gives};
 ghost use Rattle.small_card.specs.Lists.{Every};
 ghost use Rattle.small_card.specs.Ranges.{IsResult};
-ghost use Rattle.small_card.specs.declared.types.PackageResult.{PackageResult};
-ghost use Rattle.result_codec.specs.Pairs.{each_pair};
-ghost use Rattle.es10_codec.specs.Reading.{is_before, results_at};
+ghost use Rattle.es10_codec.specs.Reading.{results_at};
 ghost use Rattle.es10_codec.specs.Spelling.{results};
 
-use crate::tags::{MOST_RESULTS, RESULT};
+use crate::tags::RESULT;
 use iot_bytes::{NoMemory, ReadError, Row};
 use result_codec::{read_result_content, result_len, write_result};
-use sgp_fields::{Listed, list};
-use small_card::PackageResult;
+use sgp_fields::{Listed, Written, list, list_len, put_list};
+use small_card::limits::MOST_PENDING;
+use small_card::{PackageResult, are_all_apart};
 use std::alloc::Global;
 
-struct ResultEntry;
+/// A result as one element.
+struct Entry;
 
-impl Listed<PackageResult> for ResultEntry {
-    ghost use Rattle.es10_codec.specs.Reading.{result_entry};
+impl Listed<PackageResult> for Entry {
+    ghost use Rattle.sgp_fields.specs.Elements.{tagged_as};
+    ghost use Rattle.result_codec.specs.Reading.{result_of};
 
-    ghost entry_of = { result_entry };
+    ghost entry_of = { tagged_as 0x30 result_of };
 
-    #[tactic(auto, unfolding(crate::specs::Reading::result_entry))]
     fn read(alloc: Global, tag: u8, content: &[u8]) -> Result<PackageResult, ReadError> {
-        if tag == RESULT {
-            read_result_content(alloc, content)
-        } else {
-            Err(ReadError::Malformed)
+        match tag {
+            RESULT => read_result_content(alloc, content),
+            _ => Err(ReadError::Malformed),
         }
     }
 }
 
-fn before_all(r: &PackageResult, others: &[PackageResult]) -> bool
-    ensures { result ≡ list_all (is_before r.now) others.now }
-{
-    others.iter().all(|s| r.seq < s.seq)
-}
+impl Written<PackageResult> for Entry {
+    ghost use Rattle.result_codec.specs.Spelling.{result as one};
 
-#[tactic(auto, unfolding(result_codec::specs::Pairs::each_pair))]
-fn all_rising(rows: &[PackageResult]) -> bool
-    ensures { result ≡ each_pair is_before rows.now }
-{
-    match rows {
-        [] => true,
-        [first, rest @ ..] => before_all(first, rest) && all_rising(rest),
+    ghost spelled = { one };
+
+    ghost Fits = { IsResult };
+
+    ghost most = { 18309 };
+
+    fn len(r: &PackageResult) -> usize {
+        result_len(r)
+    }
+
+    fn put(out: &mut Row<u8>, r: &PackageResult) -> Result<(), NoMemory> {
+        write_result(r, out)
     }
 }
 
@@ -54,8 +55,8 @@ fn all_rising(rows: &[PackageResult]) -> bool
 pub(crate) fn read_results(alloc: Global, content: &[u8]) -> Result<Row<PackageResult>, ReadError>
     ensures { Gives result (results_at content.now) }
 {
-    let rows = list::<PackageResult, ResultEntry>(alloc, content, MOST_RESULTS)?;
-    if all_rising(rows.as_slice()) {
+    let rows = list::<PackageResult, Entry>(alloc, content, MOST_PENDING)?;
+    if are_all_apart(rows.as_slice()) {
         Ok(rows)
     } else {
         Err(ReadError::Malformed)
@@ -69,22 +70,14 @@ pub(crate) fn results_len(rows: &[PackageResult]) -> usize
     ensures len { result ≡ length (results rows.now) }
     ensures few { result ≤ 146472 }
 {
-    let mut len = 0;
-    for r in rows {
-        len += result_len(r);
-    }
-    len
+    list_len::<PackageResult, Entry>(rows)
 }
 
 /// Appends the results, or a part of them where memory runs out.
-#[tactic(auto, using(result_codec::proofs::Writing::kept_before))]
 pub(crate) fn put_results(out: &mut Row<u8>, rows: &[PackageResult]) -> Result<(), NoMemory>
     requires { Every IsResult rows.now }
     ensures ok { OnOk result (out.new ≡ out.old ++ results rows.now) }
     ensures err { OnErr result (take (length out.old) out.new ≡ out.old) }
 {
-    for r in rows {
-        write_result(r, out)?;
-    }
-    Ok(())
+    put_list::<PackageResult, Entry>(out, rows)
 }

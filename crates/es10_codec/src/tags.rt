@@ -1,39 +1,14 @@
-//! Tag octets and greatest values of ES10 records, for reader and writer.
+//! The tags of records on ES10b (SGP.32), a module a record, for reader, writer and lengths; and
+//! their greatest numbers, as they are read.
 
-/// The first field of a record.
-pub(crate) const FIRST: u8 = 0x80;
+use small_card::limits;
 
-pub(crate) const SECOND: u8 = 0x81;
+pub(crate) const GREATEST_SEQ: u64 = limits::GREATEST_SEQ as u64;
 
-pub(crate) const THIRD: u8 = 0x82;
+pub(crate) const GREATEST_ASSOCIATION: u64 = limits::GREATEST_ASSOCIATION as u64;
 
-/// The greatest association and the greatest sequence number.
-pub(crate) const GREATEST_NUMBER: u64 = 0xffff_ffff;
-
-/// The greatest counter, 2^63 - 1.
-pub(crate) const GREATEST_COUNTER: u64 = 0x7fff_ffff_ffff_ffff;
-
-/// The greatest code of a refused Load, and the one code with counters.
-pub(crate) const GREATEST_REFUSAL: u64 = 8;
-
-pub(crate) const REPLAY: u64 = 6;
-
-pub(crate) const GREATEST_INITIAL_REFUSAL: u64 = 2;
-
-pub(crate) const MOST_RESULTS: usize = 8;
-
-/// One result in a list of them.
-pub(crate) const RESULT: u8 = 0x30;
-
-/// The stop record.
-pub(crate) const STOPPED: u8 = 0xad;
-
-/// The tags of commands.
 pub(crate) mod command {
     pub(crate) const PERSONALISE: u8 = 0xa0;
-
-    /// The profiles of a Personalise.
-    pub(crate) const PROFILES: u8 = 0xa1;
 
     pub(crate) const LOAD: u8 = 0xa1;
 
@@ -48,7 +23,20 @@ pub(crate) mod command {
     pub(crate) const INITIAL: u8 = 0xa6;
 }
 
-/// The tags of answers.
+/// The fields of a Personalise.
+pub(crate) mod personalise {
+    pub(crate) const EID: u8 = 0x80;
+
+    pub(crate) const PROFILES: u8 = 0xa1;
+}
+
+/// The fields of a Load.
+pub(crate) mod load {
+    pub(crate) const VERDICT: u8 = 0x80;
+
+    pub(crate) const PACKAGE: u8 = 0x81;
+}
+
 pub(crate) mod answer {
     pub(crate) const PERSONALISED: u8 = 0x80;
 
@@ -75,4 +63,16 @@ pub(crate) mod answer {
     pub(crate) const MALFORMED: u8 = 0x8b;
 
     pub(crate) const ALREADY_PERSONAL: u8 = 0x8c;
+}
+
+/// An entry in a list of results.
+pub(crate) const RESULT: u8 = 0x30;
+
+/// The stop record and its fields.
+pub(crate) mod stop {
+    pub(crate) const STOPPED: u8 = 0xad;
+
+    pub(crate) const STATUS: u8 = 0x80;
+
+    pub(crate) const NUMBER: u8 = 0x81;
 }

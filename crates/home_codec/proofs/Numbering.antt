@@ -12,8 +12,8 @@ use Rattle.sgp_fields.proofs.Numbers.{card_number_codec}
 use Rattle.sgp_fields.proofs.Steps.{value_again}
 use Rattle.small_card.specs.Ranges.{IsResult, IsNumber}
 use Rattle.small_card.specs.declared.types.PackageResult.{PackageResult}
-use Rattle.result_codec.specs.Spelling.{result, result_content, result_head, items, rolled_mark}
-use Rattle.result_codec.proofs.ResultCodec.{result_few}
+use Rattle.result_codec.specs.Spelling.{result, result_content}
+use Rattle.result_codec.proofs.ResultCodec.{result_few, number_first}
 use Rattle.home_codec.specs.Fixed.{word}
 use Rattle.home_codec.specs.Layout.{kept_front, slot_front}
 use Rattle.home_codec.specs.Homes.{Begins}
@@ -68,11 +68,11 @@ outer content = refl
 
 -- what stands behind the number
 behind_seq : PackageResult → List ℕ
-behind_seq r = element 129 r.eim ++ (element 130 (uint r.association) ++ (element 131 (uint r.counter) ++ (element 164 (items r.items) ++ rolled_mark r.rolled)))
+behind_seq r = (number_first r).0
 
 content_begins : (r : PackageResult) → result_content r ≡ element 128 (uint r.seq) ++ behind_seq r
-unfolding result_content result_head behind_seq
-content_begins r = simp append_assoc
+unfolding behind_seq
+content_begins r = (number_first r).1
 
 result_begins : (r : PackageResult) → result r ≡ seq_front r ++ behind_seq r
 unfolding result seq_front

@@ -1,9 +1,5 @@
-pub mod Writing
-pub mod Sizes
-pub mod Pairs
-pub mod Tagged
 pub mod TableCodec
 pub mod EimListCodec
 pub mod ItemCodec
 pub mod ResultCodec
-pub mod Clauses
+pub mod RefusalCodec

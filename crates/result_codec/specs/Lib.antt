@@ -1,4 +1,3 @@
 pub mod Spelling
-pub mod Pairs
 pub mod Reading
 pub mod Laws

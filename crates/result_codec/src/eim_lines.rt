@@ -1,38 +1,36 @@
-ghost use Rattle.std.specs.Prelude.{◌≡◌, ◌≤◌, ◌+◌, ◌*◌, ◌++◌, ℕ, List, Some, take, length, OnOk, OnErr, IfOk, IsErrOf};
-ghost use Rattle.std.specs.List.{list_all};
+//! The eIM list: a list of records, of which not every two may stand together.
+
+ghost use Rattle.std.specs.Prelude.{◌≡◌, ◌≤◌, ◌+◌, ◌*◌, ◌++◌, List, Some, take, length};
+ghost use Rattle.std.specs.Prelude.{OnOk, OnErr, IfOk, IsErrOf};
 ghost use Rattle.sgp_der.specs.Fields.{Gives};
+ghost use Rattle.sgp_fields.specs.Laws.{SpellsNone};
 ghost use Rattle.small_card.specs.Ranges.{IsEimList};
 ghost use Rattle.small_card.specs.declared.types.EimLine.{EimLine};
-ghost use Rattle.result_codec.specs.Pairs.{each_pair, are_lines_apart};
 ghost use Rattle.result_codec.specs.Reading.{eim_line_fields, eim_lines_at};
-ghost use Rattle.result_codec.specs.Spelling.{eim_line_content, eim_line, eim_lines};
+ghost use Rattle.result_codec.specs.Spelling.{eim_line_content, eim_lines};
 
-use crate::lengths::{field_len, number_len};
-use crate::tags::{
-    FIRST, FOURTH, GREATEST_COUNTER, GREATEST_NUMBER, MOST_EIMS, RECORD, SECOND, THIRD,
-};
+use crate::tags::GREATEST_ASSOCIATION;
+use crate::tags::eim_line::{ADDRESS, ASSOCIATION, COUNTER, EIM_ID, LINE};
 use iot_bytes::{NoMemory, ReadError, Row};
 use sgp_der::{put_head, put_octets, put_uint};
-use sgp_fields::{Listed, element_len, last_number, list, number, value};
+use sgp_fields::{
+    Fields, Listed, Written, element_len, field_len, list, list_len, number_len, write_list,
+};
 use sgp_values::{Address, EimId};
-use small_card::EimLine;
+use small_card::limits::{GREATEST_COUNTER, MOST_EIMS};
+use small_card::{EimLine, are_all_apart};
 use std::alloc::Global;
 
 #[tactic(auto, unfolding(crate::specs::Reading::eim_line_fields))]
-fn eim_line_from(content: &[u8]) -> Option<EimLine>
-    ensures { result ≡ eim_line_fields content.now }
+fn line_from(content: &[u8]) -> Result<EimLine, ReadError>
+    ensures { Gives result (eim_line_fields content.now) }
 {
-    let Some((id, rest)) = value::<EimId>(content, FIRST) else {
-        return None;
-    };
-    let Some((address, rest)) = value::<Address>(rest, SECOND) else {
-        return None;
-    };
-    let Some((association, rest)) = number(rest, THIRD, 1, GREATEST_NUMBER) else {
-        return None;
-    };
-    let counter = last_number(rest, FOURTH, 0, GREATEST_COUNTER)?;
-    Some(EimLine {
+    let mut fields = Fields::of(content);
+    let id = fields.value::<EimId>(EIM_ID)?;
+    let address = fields.value::<Address>(ADDRESS)?;
+    let association = fields.number(ASSOCIATION, 1, GREATEST_ASSOCIATION)?;
+    let counter = fields.last_number(COUNTER, 0, GREATEST_COUNTER)?;
+    Ok(EimLine {
         id,
         address,
         association: association as u32,
@@ -40,42 +38,55 @@ fn eim_line_from(content: &[u8]) -> Option<EimLine>
     })
 }
 
-struct EimLineEntry;
+#[tactic(auto, unfolding(crate::specs::Spelling::eim_line_content), using(sgp_fields::proofs::Appending::length_both))]
+fn content_len(e: &EimLine) -> usize
+    ensures len { result ≡ length (eim_line_content e.now) }
+    ensures few { result ≤ 294 }
+{
+    field_len(e.id.octets())
+        + field_len(e.address.octets())
+        + number_len(u64::from(e.association))
+        + number_len(e.counter)
+}
 
-impl Listed<EimLine> for EimLineEntry {
+/// A line as one element.
+struct Entry;
+
+impl Listed<EimLine> for Entry {
     ghost use Rattle.result_codec.specs.Reading.{eim_line_of};
 
     ghost entry_of = { eim_line_of };
 
-    #[tactic(auto, unfolding(crate::specs::Reading::eim_line_of))]
     fn read(_alloc: Global, tag: u8, content: &[u8]) -> Result<EimLine, ReadError> {
-        if tag == RECORD {
-            eim_line_from(content).ok_or(ReadError::Malformed)
-        } else {
-            Err(ReadError::Malformed)
+        match tag {
+            LINE => line_from(content),
+            _ => Err(ReadError::Malformed),
         }
     }
 }
 
-fn may_stand_together(d: &EimLine, e: &EimLine) -> bool
-    ensures { result ≡ are_lines_apart d.now e.now }
-{
-    d.id != e.id && d.association != e.association
-}
+impl Written<EimLine> for Entry {
+    ghost use Rattle.small_card.specs.Ranges.{IsEimLine};
+    ghost use Rattle.result_codec.specs.Spelling.{eim_line};
 
-fn apart_from_all(d: &EimLine, others: &[EimLine]) -> bool
-    ensures { result ≡ list_all (are_lines_apart d.now) others.now }
-{
-    others.iter().all(|e| may_stand_together(d, e))
-}
+    ghost spelled = { eim_line };
 
-#[tactic(auto, unfolding(crate::specs::Pairs::each_pair))]
-fn all_apart(rows: &[EimLine]) -> bool
-    ensures { result ≡ each_pair are_lines_apart rows.now }
-{
-    match rows {
-        [] => true,
-        [first, rest @ ..] => apart_from_all(first, rest) && all_apart(rest),
+    ghost Fits = { IsEimLine };
+
+    ghost most = { 283 };
+
+    #[tactic(auto, unfolding(crate::specs::Spelling::eim_line))]
+    fn len(e: &EimLine) -> usize {
+        element_len(content_len(e))
+    }
+
+    #[tactic(auto, unfolding(crate::specs::Spelling::eim_line, crate::specs::Spelling::eim_line_content), using(sgp_fields::proofs::Appending::appended))]
+    fn put(out: &mut Row<u8>, e: &EimLine) -> Result<(), NoMemory> {
+        put_head(out, LINE, content_len(e))?;
+        put_octets(out, EIM_ID, e.id.octets())?;
+        put_octets(out, ADDRESS, e.address.octets())?;
+        put_uint(out, ASSOCIATION, u64::from(e.association))?;
+        put_uint(out, COUNTER, e.counter)
     }
 }
 
@@ -83,8 +94,8 @@ fn all_apart(rows: &[EimLine]) -> bool
 fn eim_list(alloc: Global, content: &[u8]) -> Result<Row<EimLine>, ReadError>
     ensures { Gives result (eim_lines_at content.now) }
 {
-    let rows = list::<EimLine, EimLineEntry>(alloc, content, MOST_EIMS)?;
-    if all_apart(rows.as_slice()) {
+    let rows = list::<EimLine, Entry>(alloc, content, MOST_EIMS)?;
+    if are_all_apart(rows.as_slice()) {
         Ok(rows)
     } else {
         Err(ReadError::Malformed)
@@ -100,32 +111,15 @@ pub fn read_eim_lines(alloc: Global, content: &[u8]) -> Result<Row<EimLine>, Rea
     // What is read is spelled so.
     ensures found { IfOk result (λ es. IsEimList es × (content.now ≡ eim_lines es)) }
     // What is spelled so is read, unless memory runs out.
-    ensures only { (es : List EimLine) → IsEimList es → content.now ≡ eim_lines es → Gives result (Some es) }
+    ensures only { (es : List EimLine) → IsEimList es → content.now ≡ eim_lines es
+        → Gives result (Some es) }
     // Malformed comes only where nothing is spelled so.
-    ensures malformed { IsErrOf result ReadError.Malformed → (es : List EimLine) → IsEimList es → content.now ≡ eim_lines es → ⊥ }
+    ensures malformed { IsErrOf result ReadError.Malformed
+        → SpellsNone eim_lines IsEimList content.now }
     // The reading word, for callers that compose it.
     ensures exact { Gives result (eim_lines_at content.now) }
 {
     eim_list(alloc, content)
-}
-
-#[tactic(auto, unfolding(crate::specs::Spelling::eim_line_content), using(crate::proofs::Writing::length_both))]
-fn content_len(e: &EimLine) -> usize
-    ensures len { result ≡ length (eim_line_content e.now) }
-    ensures few { result ≤ 294 }
-{
-    field_len(e.id.octets())
-        + field_len(e.address.octets())
-        + number_len(u64::from(e.association))
-        + number_len(e.counter)
-}
-
-#[tactic(auto, unfolding(crate::specs::Spelling::eim_line))]
-fn eim_line_len(e: &EimLine) -> usize
-    ensures len { result ≡ length (eim_line e.now) }
-    ensures few { result ≤ 299 }
-{
-    element_len(content_len(e))
 }
 
 /// How many octets [`write_eim_lines`] appends. It takes no memory.
@@ -134,42 +128,7 @@ pub fn eim_lines_len(rows: &[EimLine]) -> usize
     ensures len { result ≡ length (eim_lines rows.now) }
     ensures few { result ≤ 2264 }
 {
-    let mut len = 0;
-    for e in rows {
-        len += eim_line_len(e);
-    }
-    len
-}
-
-#[tactic(auto, unfolding(crate::specs::Spelling::eim_line_content))]
-fn put_content(out: &mut Row<u8>, e: &EimLine) -> Result<(), NoMemory>
-    ensures ok { OnOk result (out.new ≡ out.old ++ eim_line_content e.now) }
-    ensures err { OnErr result (take (length out.old) out.new ≡ out.old) }
-{
-    put_octets(out, FIRST, e.id.octets())?;
-    put_octets(out, SECOND, e.address.octets())?;
-    put_uint(out, THIRD, u64::from(e.association))?;
-    put_uint(out, FOURTH, e.counter)
-}
-
-#[tactic(auto, unfolding(crate::specs::Spelling::eim_line), using(crate::proofs::Writing::headed, crate::proofs::Writing::kept_before))]
-fn put_eim_line(out: &mut Row<u8>, e: &EimLine) -> Result<(), NoMemory>
-    ensures ok { OnOk result (out.new ≡ out.old ++ eim_line e.now) }
-    ensures err { OnErr result (take (length out.old) out.new ≡ out.old) }
-{
-    put_head(out, RECORD, content_len(e))?;
-    put_content(out, e)
-}
-
-// Appends the lines, or a part of them where memory runs out.
-pub(crate) fn put_eim_lines(out: &mut Row<u8>, rows: &[EimLine]) -> Result<(), NoMemory>
-    ensures ok { OnOk result (out.new ≡ out.old ++ eim_lines rows.now) }
-    ensures err { OnErr result (take (length out.old) out.new ≡ out.old) }
-{
-    for e in rows {
-        put_eim_line(out, e)?;
-    }
-    Ok(())
+    list_len::<EimLine, Entry>(rows)
 }
 
 /// Appends the lines, one element behind the other, or nothing where memory runs out.
@@ -178,10 +137,5 @@ pub fn write_eim_lines(rows: &[EimLine], out: &mut Row<u8>) -> Result<(), NoMemo
     ensures ok { OnOk result (out.new ≡ out.old ++ eim_lines rows.now) }
     ensures err { OnErr result (out.new ≡ out.old) }
 {
-    let before = out.len();
-    if put_eim_lines(out, rows).is_err() {
-        out.cut(before);
-        return Err(NoMemory);
-    }
-    Ok(())
+    write_list::<EimLine, Entry>(out, rows)
 }

@@ -1,63 +1,82 @@
-//! Tag octets and greatest values of results, for reader, writer and length.
+//! The tags of results and refusals (SGP.32, eUICC Package Result), a module a record, for reader,
+//! writer and lengths; and their greatest numbers, as they are read.
 
-/// A profile, an eIM line, or a whole result.
-pub(crate) const RECORD: u8 = 0x30;
+use small_card::limits;
 
-/// The first field of a record; it is the code of an item that has one.
-pub(crate) const FIRST: u8 = 0x80;
+pub(crate) const GREATEST_SEQ: u64 = limits::GREATEST_SEQ as u64;
 
-pub(crate) const SECOND: u8 = 0x81;
+pub(crate) const GREATEST_ASSOCIATION: u64 = limits::GREATEST_ASSOCIATION as u64;
 
-pub(crate) const THIRD: u8 = 0x82;
+pub(crate) mod result {
+    pub(crate) const RESULT: u8 = 0x30;
 
-pub(crate) const FOURTH: u8 = 0x83;
+    pub(crate) const SEQ: u8 = 0x80;
 
-/// The items of a result.
-pub(crate) const ITEMS: u8 = 0xa4;
+    pub(crate) const EIM_ID: u8 = 0x81;
 
-/// Stands at the end of a result that a rollback marked.
-pub(crate) const ROLLED: u8 = 0x85;
+    pub(crate) const ASSOCIATION: u8 = 0x82;
 
-pub(crate) const ENABLE: u8 = 0xa0;
+    pub(crate) const COUNTER: u8 = 0x83;
 
-pub(crate) const DISABLE: u8 = 0xa1;
+    pub(crate) const ITEMS: u8 = 0xa4;
 
-pub(crate) const DELETE: u8 = 0xa2;
+    /// Stands at the end of a result that a rollback marked.
+    pub(crate) const ROLLED: u8 = 0x85;
+}
 
-pub(crate) const PROFILES: u8 = 0xa3;
+/// The items are read and written by one table in `items.rt`; those with a code alone have it as
+/// their one number.
+pub(crate) mod item {
+    pub(crate) const ENABLE: u8 = 0xa0;
 
-pub(crate) const ADD: u8 = 0xa8;
+    pub(crate) const DISABLE: u8 = 0xa1;
 
-pub(crate) const UPDATE: u8 = 0xa9;
+    pub(crate) const DELETE: u8 = 0xa2;
 
-pub(crate) const DROPPED: u8 = 0xaa;
+    pub(crate) const PROFILES: u8 = 0xa3;
 
-pub(crate) const EIMS: u8 = 0xab;
+    pub(crate) const ADD: u8 = 0xa8;
 
-/// The greatest code of each operation.
-pub(crate) const GREATEST_ENABLE: u8 = 2;
+    pub(crate) const UPDATE: u8 = 0xa9;
 
-pub(crate) const GREATEST_DISABLE: u8 = 2;
+    pub(crate) const DROPPED: u8 = 0xaa;
 
-pub(crate) const GREATEST_DELETE: u8 = 3;
+    pub(crate) const EIMS: u8 = 0xab;
+}
 
-pub(crate) const GREATEST_ADD: u64 = 3;
+/// The fields in the item of an add.
+pub(crate) mod add {
+    pub(crate) const CODE: u8 = 0x80;
 
-pub(crate) const GREATEST_UPDATE: u8 = 1;
+    pub(crate) const ASSOCIATION: u8 = 0x81;
+}
 
-pub(crate) const GREATEST_DROPPED: u8 = 2;
+pub(crate) mod profile {
+    pub(crate) const PROFILE: u8 = 0x30;
 
-/// The code of an operation that was done: with it an add has an association.
-pub(crate) const DONE: u8 = 0;
+    pub(crate) const ICCID: u8 = 0x80;
 
-/// The greatest association and the greatest sequence number.
-pub(crate) const GREATEST_NUMBER: u64 = 0xffff_ffff;
+    pub(crate) const ENABLED: u8 = 0x81;
 
-/// The greatest counter, 2^63 - 1.
-pub(crate) const GREATEST_COUNTER: u64 = 0x7fff_ffff_ffff_ffff;
+    pub(crate) const NICKNAME: u8 = 0x82;
+}
 
-pub(crate) const MOST_PROFILES: usize = 16;
+pub(crate) mod eim_line {
+    pub(crate) const LINE: u8 = 0x30;
 
-pub(crate) const MOST_EIMS: usize = 8;
+    pub(crate) const EIM_ID: u8 = 0x80;
 
-pub(crate) const MOST_ITEMS: usize = 8;
+    pub(crate) const ADDRESS: u8 = 0x81;
+
+    pub(crate) const ASSOCIATION: u8 = 0x82;
+
+    pub(crate) const COUNTER: u8 = 0x83;
+}
+
+pub(crate) mod refusal {
+    pub(crate) const CODE: u8 = 0x80;
+
+    pub(crate) const KEPT: u8 = 0x81;
+
+    pub(crate) const RECEIVED: u8 = 0x82;
+}

@@ -1,14 +1,40 @@
 use super::*;
 use iot_bytes::{ReadError, Row};
 use sgp_der::put_octets;
+use small_card::Refused;
 use std::alloc::Global;
 use std::test::Fail;
 
 /// The result of a first load: number 1, of the eIM `e1`, with one enable that was done.
 const FIRST: [u8; 22] = [
-    0x30, 0x14, 0x80, 0x01, 0x01, 0x81, 0x02, 0x65, 0x31, 0x82, 0x01, 0x01, 0x83, 0x01, 0x01, 0xa4,
-    0x05, 0xa0, 0x03, 0x80, 0x01, 0x00,
+    0x30, 0x14, 0x80, 1, 1, 0x81, 2, b'e', b'1', 0x82, 1, 1, 0x83, 1, 1, 0xa4, 5, 0xa0, 3, 0x80, 1,
+    0,
 ];
+
+/// The enable that was done.
+const DONE: [u8; 5] = [0xa0, 3, 0x80, 1, 0];
+
+// The octets, so many times.
+fn repeated(alloc: Global, octets: &[u8], times: usize) -> Result<Row<u8>, Fail> {
+    let mut out = Row::new(alloc);
+    for _ in 0..times {
+        out.append(octets)?;
+    }
+    Ok(out)
+}
+
+// The first result with other items.
+fn with_items(alloc: Global, items: &[u8]) -> Result<Row<u8>, Fail> {
+    if items.len() > 100 {
+        return Err("too many octets for this test".into());
+    }
+    let mut fields = Row::new(alloc);
+    fields.append(&FIRST[2..15])?;
+    put_octets(&mut fields, 0xa4, items)?;
+    let mut out = Row::new(alloc);
+    put_octets(&mut out, 0x30, fields.as_slice())?;
+    Ok(out)
+}
 
 // Whether the octets are a result; where they are, it is measured and written as they stand.
 fn is_result(alloc: Global, bytes: &[u8]) -> Result<bool, Fail> {
@@ -27,91 +53,65 @@ fn is_result(alloc: Global, bytes: &[u8]) -> Result<bool, Fail> {
     }
 }
 
-// The first result with other items.
-fn with_items(alloc: Global, items: &[u8]) -> Result<Row<u8>, Fail> {
-    if items.len() > 100 {
-        return Err("too many octets for this test".into());
-    }
-    let mut fields = Row::new(alloc);
-    fields.append(&FIRST[2..15])?;
-    put_octets(&mut fields, 0xa4, items)?;
-    let mut out = Row::new(alloc);
-    put_octets(&mut out, 0x30, fields.as_slice())?;
-    Ok(out)
-}
+/// Items of results.
+const ITEMS: [&[u8]; 6] = [
+    &[0xa0, 3, 0x80, 1, 2],
+    &[0xa2, 3, 0x80, 1, 3],
+    &[0xaa, 3, 0x80, 1, 2],
+    &[0xa8, 6, 0x80, 1, 0, 0x81, 1, 1],
+    &[0xa8, 3, 0x80, 1, 1],
+    &[0xa3, 0, 0xab, 0],
+];
+
+/// What no result has as its items.
+const NO_ITEMS: [&[u8]; 7] = [
+    // codes above the greatest
+    &[0xa0, 3, 0x80, 1, 3],
+    &[0xa9, 3, 0x80, 1, 2],
+    // an add without its association, and one with an association that wasn't done
+    &[0xa8, 3, 0x80, 1, 0],
+    &[0xa8, 6, 0x80, 1, 1, 0x81, 1, 1],
+    // the tag of no item, a mark among the items, no item
+    &[0xa4, 0],
+    &[0xa0, 3, 0x80, 1, 0, 0x85, 0],
+    &[],
+];
 
 #[test]
 fn items_in_a_result(rt: HostRuntime) -> Result<(), Fail> {
     let alloc = rt.alloc();
-    let nine: [u8; 45] = [
-        0xa0, 3, 0x80, 1, 0, 0xa0, 3, 0x80, 1, 0, 0xa0, 3, 0x80, 1, 0, 0xa0, 3, 0x80, 1, 0, 0xa0,
-        3, 0x80, 1, 0, 0xa0, 3, 0x80, 1, 0, 0xa0, 3, 0x80, 1, 0, 0xa0, 3, 0x80, 1, 0, 0xa0, 3,
-        0x80, 1, 0,
-    ];
-    let lines: [u8; 25] = [
-        0xab, 0x17, 0x30, 0x0b, 0x80, 1, b'a', 0x81, 0, 0x82, 1, 1, 0x83, 1, 0, 0x30, 0x08, 0x80,
-        1, b'b', 0x81, 0, 0x82, 1, 2,
-    ];
-    let cases: [(&[u8], bool); 16] = [
-        (&[0xa0, 3, 0x80, 1, 2], true),
-        (&[0xa0, 3, 0x80, 1, 3], false),
-        (&[0xa2, 3, 0x80, 1, 3], true),
-        (&[0xa9, 3, 0x80, 1, 2], false),
-        (&[0xaa, 3, 0x80, 1, 2], true),
-        (&[0xa8, 6, 0x80, 1, 0, 0x81, 1, 1], true),
-        (&[0xa8, 3, 0x80, 1, 0], false),
-        (&[0xa8, 3, 0x80, 1, 1], true),
-        (&[0xa8, 6, 0x80, 1, 1, 0x81, 1, 1], false),
-        (&[0xa3, 0, 0xab, 0], true),
-        (&[0xa4, 0], false),
-        (&[0xa0, 3, 0x80, 1, 0, 0x85, 0], false),
-        (&[], false),
-        (&nine[..40], true),
-        (&nine, false),
-        (&lines, false),
-    ];
-    for (items, wanted) in cases {
+    for items in ITEMS {
         let bytes = with_items(alloc, items)?;
-        assert_eq!(rt;
-            is_result(alloc, bytes.as_slice())?,
-            wanted,
-            "for {items:?}"
-        );
+        assert!(rt; is_result(alloc, bytes.as_slice())?, "for {items:?}");
+    }
+    for items in NO_ITEMS {
+        let bytes = with_items(alloc, items)?;
+        assert!(rt; !is_result(alloc, bytes.as_slice())?, "for {items:?}");
     }
     Ok(())
 }
 
-// Each octet changed, and each front; the mark behind it.
 #[test]
-fn octets_near_a_result(rt: HostRuntime) -> Result<(), Fail> {
+fn as_many_items(rt: HostRuntime) -> Result<(), Fail> {
     let alloc = rt.alloc();
-    assert!(rt; is_result(alloc, &FIRST)?);
-    for at in 0..22usize {
-        assert!(rt; !is_result(alloc, &FIRST[..at])?, "the first {at} octets");
-        let mut read = 0u32;
-        for octet in [0x04, 0x07, 0x66, 0x7f, 0xff] {
-            let mut bytes = FIRST;
-            bytes[at] = octet;
-            if is_result(alloc, &bytes)? && read < 5 {
-                read += 1;
-            }
-        }
-        // other numbers, and another letter of the identifier
-        let wanted = match at {
-            4 | 11 | 14 => 4,
-            7 | 8 => 1,
-            _ => 0,
-        };
-        assert_eq!(rt; read, wanted, "at {at}");
+    for (times, wanted) in [(1, true), (8, true), (9, false)] {
+        let items = repeated(alloc, &DONE, times)?;
+        let bytes = with_items(alloc, items.as_slice())?;
+        assert_eq!(rt; is_result(alloc, bytes.as_slice())?, wanted, "for {times}");
     }
-    let mut marked = Row::new(alloc);
-    marked.append(&[0x30, 0x16])?;
-    marked.append(&FIRST[2..])?;
-    marked.append(&[0x85, 0x00])?;
-    assert!(rt; is_result(alloc, marked.as_slice())?);
     Ok(())
 }
 
+#[test]
+fn fields_of_a_result(rt: HostRuntime) -> Result<(), Fail> {
+    let Ok(first) = read_result_content(rt.alloc(), &FIRST[2..]) else {
+        return Err("the fields of a result were expected".into());
+    };
+    assert_eq!(rt; result_len(&first), 22);
+    Ok(())
+}
+
+// A line with the longest identifier and address and the greatest numbers.
 fn greatest_line(out: &mut Row<u8>, letter: u8) -> Result<(), Fail> {
     out.append(&[0x30, 0x82, 0x01, 0x17, 0x80, 0x81, 0x80])?;
     out.append(&[letter; 128])?;
@@ -131,9 +131,21 @@ fn eight_lines(alloc: Global) -> Result<Row<u8>, Fail> {
 }
 
 #[test]
-fn greatest_result(rt: HostRuntime) -> Result<(), Fail> {
+fn greatest_list(rt: HostRuntime) -> Result<(), Fail> {
     let alloc = rt.alloc();
     let lines = eight_lines(alloc)?;
+    let Ok(rows) = read_eim_lines(alloc, lines.as_slice()) else {
+        return Err("eight lines were expected".into());
+    };
+    let mut again = Row::new(alloc);
+    write_eim_lines(rows.as_slice(), &mut again)?;
+    assert_eq!(rt; again.as_slice(), lines.as_slice());
+    assert_eq!(rt; eim_lines_len(rows.as_slice()), 2264);
+    Ok(())
+}
+
+// The result with eight greatest lists, and each field as long as it may be.
+fn greatest(alloc: Global, lines: &[u8]) -> Result<Row<u8>, Fail> {
     let mut out = Row::new(alloc);
     out.append(&[0x30, 0x82, 0x47, 0x81])?;
     out.append(&[0x80, 0x05, 0x00, 0xff, 0xff, 0xff, 0xff])?;
@@ -144,14 +156,23 @@ fn greatest_result(rt: HostRuntime) -> Result<(), Fail> {
     out.append(&[0xa4, 0x82, 0x46, 0xe0])?;
     for _ in 0..8 {
         out.append(&[0xab, 0x82, 0x08, 0xd8])?;
-        out.append(lines.as_slice())?;
+        out.append(lines)?;
     }
     out.append(&[0x85, 0x00])?;
-    assert_eq!(rt; out.len(), 18_309);
-    assert!(rt; is_result(alloc, out.as_slice())?);
+    Ok(out)
+}
+
+#[test]
+fn greatest_result(rt: HostRuntime) -> Result<(), Fail> {
+    let alloc = rt.alloc();
+    let lines = eight_lines(alloc)?;
+    let bytes = greatest(alloc, lines.as_slice())?;
+    assert_eq!(rt; bytes.len(), 18_309);
+    assert!(rt; is_result(alloc, bytes.as_slice())?);
     Ok(())
 }
 
+// Two profiles, each of ten equal octets as its ICCID, and a flag.
 fn two_profiles(alloc: Global, first: (u8, u8), second: (u8, u8)) -> Result<Row<u8>, Fail> {
     let mut out = Row::new(alloc);
     for (iccid, enabled) in [first, second] {
@@ -188,27 +209,33 @@ fn lists_of_profiles(rt: HostRuntime) -> Result<(), Fail> {
 }
 
 #[test]
-fn lists_of_eim_lines(rt: HostRuntime) -> Result<(), Fail> {
-    let alloc = rt.alloc();
-    let mut bytes = eight_lines(alloc)?;
-    let Ok(rows) = read_eim_lines(alloc, bytes.as_slice()) else {
-        return Err("eight lines were expected".into());
-    };
-    let mut out = Row::new(alloc);
-    write_eim_lines(rows.as_slice(), &mut out)?;
-    assert_eq!(rt; out.as_slice(), bytes.as_slice());
-    assert_eq!(rt; eim_lines_len(rows.as_slice()), bytes.len());
-    greatest_line(&mut bytes, b'i')?;
-    assert!(rt; read_eim_lines(alloc, bytes.as_slice()).is_err());
-    let twice: [u8; 26] = [
-        0x30, 0x0b, 0x80, 1, b'a', 0x81, 0, 0x82, 1, 1, 0x83, 1, 0, 0x30, 0x0b, 0x80, 1, b'b',
-        0x81, 0, 0x82, 1, 1, 0x83, 1, 0,
+fn refusals(rt: HostRuntime) -> Result<(), Fail> {
+    let cases = [
+        (6, 2, 1, true),
+        (6, 0, 0, true),
+        (1, 0, 0, true),
+        (8, 0, 0, true),
+        (9, 0, 0, false),
+        (0, 0, 0, false),
+        (5, 1, 0, false),
+        (5, 0, 1, false),
     ];
-    assert!(rt; read_eim_lines(alloc, &twice[..13]).is_ok());
-    assert!(rt; read_eim_lines(alloc, &twice).is_err());
-    let kept: [u8; 21] = [
-        0x30, 0x13, 0x80, 1, b'a', 0x81, 0, 0x82, 1, 1, 0x83, 9, 0, 0x80, 0, 0, 0, 0, 0, 0, 0,
-    ];
-    assert!(rt; read_eim_lines(alloc, &kept).is_err());
+    for (code, kept, received, wanted) in cases {
+        let bytes = [0x80, 1, code, 0x81, 1, kept, 0x82, 1, received];
+        let refused = Refused {
+            code,
+            kept: u64::from(kept),
+            received: u64::from(received),
+        };
+        assert_eq!(rt;
+            read_refusal(&bytes).ok() == Some(refused),
+            wanted,
+            "for {refused:?}"
+        );
+        let mut out = Row::new(rt.alloc());
+        write_refusal(&refused, &mut out)?;
+        assert_eq!(rt; out.as_slice(), bytes.as_slice());
+        assert_eq!(rt; refusal_len(&refused), 9);
+    }
     Ok(())
 }

@@ -1,5 +1,5 @@
 use Rattle.std.proofs.Common.{arith}
-use Rattle.result_codec.proofs.Clauses.{found_by, only_by, malformed_by}
+use Rattle.sgp_fields.proofs.Clauses.{found_by, only_by, malformed_by}
 use Rattle.result_codec.proofs.EimListCodec.{eim_lines_codec}
 use Rattle.result_codec.proofs.eim_lines.read_eim_lines.Goals as goal
 

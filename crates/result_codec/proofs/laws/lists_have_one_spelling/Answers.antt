@@ -1,4 +1,4 @@
-use Rattle.result_codec.proofs.Clauses.{one_by}
+use Rattle.sgp_fields.proofs.Clauses.{one_by}
 use Rattle.result_codec.proofs.TableCodec.{profiles_codec}
 use Rattle.result_codec.proofs.EimListCodec.{eim_lines_codec}
 use Rattle.result_codec.proofs.laws.lists_have_one_spelling.Goals as goal

@@ -1,5 +1,5 @@
 use Rattle.std.proofs.Common.{arith}
-use Rattle.result_codec.proofs.Clauses.{found_by, only_by, malformed_by}
+use Rattle.sgp_fields.proofs.Clauses.{found_by, only_by, malformed_by}
 use Rattle.result_codec.proofs.TableCodec.{profiles_codec}
 use Rattle.result_codec.proofs.profiles.read_profiles.Goals as goal
 

@@ -1,5 +1,5 @@
 use Rattle.std.proofs.Common.{arith}
-use Rattle.result_codec.proofs.Clauses.{found_by, only_by, malformed_by}
+use Rattle.sgp_fields.proofs.Clauses.{found_by, only_by, malformed_by}
 use Rattle.result_codec.proofs.ResultCodec.{result_codec}
 use Rattle.result_codec.proofs.results.read_result.Goals as goal
 

@@ -1,8 +1,0 @@
-use Rattle.std.proofs.Common.{sym, arith}
-use Rattle.result_codec.specs.Spelling.{result_content, result}
-use Rattle.result_codec.proofs.ResultCodec.{result_few}
-use Rattle.result_codec.proofs.results.result_len.Goals as goal
-
-pub returns-clause-few : goal.returns-clause-few
-unfolding result
-returns-clause-few c = omega (arith, c.element_len.ensures.len 48 (result_content c.args.kept.now) (sym c.content_len.ensures.len), result_few c.args.kept.now c.requires)
