@@ -4,7 +4,7 @@
 //! Each operation writes the list in place, so that none of them takes memory.
 #![tactic(auto)]
 
-mod distinct;
+mod ranging;
 mod rows;
 mod table;
 

@@ -5,13 +5,13 @@ ghost use Rattle.small_card.specs.declared.types.Psmo.TheVariants as psmo;
 ghost use Rattle.small_card.specs.declared.types.Item.TheVariants as item;
 ghost use Rattle.profile_table.specs.Tables.{MayStand};
 
-use crate::distinct::{are_apart, ranges};
+use crate::ranging::ranges;
 use crate::rows;
 use iot_bytes::{NoMemory, Row};
 use sgp_values::Iccid;
-use small_card::Profile;
 use small_card::codes::{DONE, NOT_FOUND, WRONG_STATE};
 use small_card::limits::MOST_PROFILES;
+use small_card::{Profile, are_all_apart};
 use std::alloc::Global;
 use std::marker::Model;
 
@@ -44,7 +44,7 @@ impl Table {
         ensures same { MatchResult result (λ table. table ≡ profiles) (λ back. back ≡ profiles) }
         ensures exact { MatchResult result (λ _. IsTable profiles) (λ _. ¬ MayStand profiles) }
     {
-        if profiles.len() > MOST_PROFILES || !are_apart(profiles.as_slice()) {
+        if profiles.len() > MOST_PROFILES || !are_all_apart(profiles.as_slice()) {
             return Err(profiles);
         }
         ranges(profiles.as_slice());
@@ -57,6 +57,13 @@ impl Table {
         ensures valid { IsTable self.now }
     {
         self.rows.as_slice()
+    }
+
+    /// Tells a caller's proof that the profiles are a table. It does nothing.
+    pub fn in_range(&self)
+        ensures table { IsTable self.now }
+    {
+        let _ = &self.rows;
     }
 
     /// The place of the profile with this ICCID, counted from 0.

@@ -50,36 +50,24 @@ fn run_on(alloc: Global, profiles: &[Profile], ops: &[Psmo]) -> Result<PsmoDone,
     }
 }
 
-fn are_alike(one: &Item, other: &Item) -> bool {
-    match (one, other) {
-        (Item::Enable(a), Item::Enable(b)) => *a == *b,
-        (Item::Disable(a), Item::Disable(b)) => *a == *b,
-        (Item::Delete(a), Item::Delete(b)) => *a == *b,
-        (Item::Profiles(a), Item::Profiles(b)) => a.as_slice() == b.as_slice(),
-        _ => false,
-    }
-}
-
-fn are_all_alike(items: &[Item], wanted: &[Item]) -> bool {
-    items.len() == wanted.len()
-        && items
-            .iter()
-            .zip(wanted.iter())
-            .all(|(a, b)| are_alike(a, b))
-}
-
 #[test]
 fn a_rollback_is_armed(rt: HostRuntime) -> Result<(), Fail> {
     let start = [profile(1, true)?, profile(2, false)?, profile(3, false)?];
     let second = [profile(1, false)?, profile(2, true)?, profile(3, false)?];
 
     let done = run_on(rt.alloc(), &start, &[disable(1)?, enable(2, true)?])?;
-    assert!(rt; are_all_alike(done.items.as_slice(), &[Item::Disable(0), Item::Enable(0)]));
+    assert_eq!(rt;
+        done.items.as_slice(),
+        [Item::Disable(0), Item::Enable(0)].as_slice()
+    );
     assert_eq!(rt; done.table.rows(), second.as_slice());
     assert_eq!(rt; done.armed, Some(iccid(1)?));
 
     let done = run_on(rt.alloc(), &start, &[enable(2, true)?, delete(1)?])?;
-    assert!(rt; are_all_alike(done.items.as_slice(), &[Item::Enable(0), Item::Delete(3)]));
+    assert_eq!(rt;
+        done.items.as_slice(),
+        [Item::Enable(0), Item::Delete(3)].as_slice()
+    );
     assert_eq!(rt; done.table.rows(), second.as_slice());
     assert_eq!(rt; done.armed, Some(iccid(1)?));
     Ok(())
@@ -91,11 +79,9 @@ fn no_rollback_is_armed(rt: HostRuntime) -> Result<(), Fail> {
 
     let ops = [disable(1)?, delete(1)?, enable(2, true)?];
     let done = run_on(rt.alloc(), &start, &ops)?;
-    assert!(rt;
-        are_all_alike(
-            done.items.as_slice(),
-            &[Item::Disable(0), Item::Delete(0), Item::Enable(0)]
-        )
+    assert_eq!(rt;
+        done.items.as_slice(),
+        [Item::Disable(0), Item::Delete(0), Item::Enable(0)].as_slice()
     );
     assert_eq!(rt;
         done.table.rows(),
@@ -104,7 +90,7 @@ fn no_rollback_is_armed(rt: HostRuntime) -> Result<(), Fail> {
     assert_eq!(rt; done.armed, None);
 
     let done = run_on(rt.alloc(), &start, &[enable(9, false)?, Psmo::List])?;
-    assert!(rt; are_all_alike(done.items.as_slice(), &[Item::Enable(1)]));
+    assert_eq!(rt; done.items.as_slice(), [Item::Enable(1)].as_slice());
     assert_eq!(rt; done.table.rows(), start.as_slice());
     assert_eq!(rt; done.armed, None);
     Ok(())

@@ -95,9 +95,7 @@ pub(crate) fn copy_results(
 {
     let mut out = Reserve::with_room(alloc, room)?;
     for kept in rows {
-        if out.push(kept.copy(alloc)?).is_err() {
-            return Err(NoMemory);
-        }
+        out.push(kept.copy(alloc)?).map_err(|_| NoMemory)?;
     }
     Ok(out)
 }

@@ -36,7 +36,7 @@ fn enable_alone(table: &mut Table, former: &Iccid)
     ensures profiles { table.new ≡ enabled_alone former.now table.old }
     ensures alone { IsAlone former.now table.new }
 {
-    let _apart = table.rows();
+    table.in_range();
     let _ = table.enable(former);
 }
 
@@ -56,7 +56,7 @@ pub fn roll(mut table: Table, mut store: Store, armed: Armed) -> Rolled
         → step_full f rollback
         ≡ record { card = record (f.card) { profiles = result.table; results = result.store }; armed = None } }
 {
-    let _rising = store.rows();
+    store.in_range();
     enable_alone(&mut table, &armed.former);
     let seq = store.mark_rolled(armed.seq);
     Rolled { table, store, seq }

@@ -43,9 +43,7 @@ pub fn copy_items(alloc: Global, items: &[Item]) -> Result<Row<Item>, NoMemory>
 {
     let mut out = Reserve::with_room(alloc, items.len())?.into_row();
     for item in items {
-        if out.push(item.copy(alloc)?).is_err() {
-            return Err(NoMemory);
-        }
+        out.push(item.copy(alloc)?).map_err(|_| NoMemory)?;
     }
     Ok(out)
 }

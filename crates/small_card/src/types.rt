@@ -61,7 +61,7 @@ pub enum Eco {
 }
 
 /// The operations of a package, 1 to 8 and all of one kind.
-#[derive(Debug, Drop)]
+#[derive(Debug, Drop, PartialEq, Eq)]
 pub enum Body {
     Psmos(Row<Psmo>),
     Ecos(Row<Eco>),
@@ -93,7 +93,7 @@ pub struct Signed {
 /// the associations are used up; its association is 0 exactly where its code isn't 0. An update or
 /// a `Dropped`, which is the delete of an eIM, has 1 where the eIM isn't there, and a `Dropped` that
 /// left no eIM has 2, which counts as done.
-#[derive(Debug, Drop)]
+#[derive(Debug, Drop, PartialEq, Eq)]
 pub enum Item {
     Enable(u8),
     Disable(u8),
@@ -108,7 +108,7 @@ pub enum Item {
 /// An eUICC Package Result (SGP.32): an item for each operation that was executed. The card numbers
 /// its results by `seq`, from 1 on; a rollback marks the result of the package that permitted it
 /// as `rolled`, under a new number.
-#[derive(Debug, Drop)]
+#[derive(Debug, Drop, PartialEq, Eq)]
 pub struct PackageResult {
     pub seq: u32,
     pub eim: EimId,
@@ -164,7 +164,7 @@ pub enum Command {
 
 /// The card's answer to a [`Command`]. `InitialRefused` has code 1 where the card has an eIM and 2
 /// where the associations are used up; `Malformed` answers octets that are no command.
-#[derive(Debug, Drop)]
+#[derive(Debug, Drop, PartialEq, Eq)]
 pub enum Answer {
     Personalised,
     Loaded(PackageResult),
