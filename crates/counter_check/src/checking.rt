@@ -1,31 +1,21 @@
-ghost use Rattle.std.specs.Prelude.{◌≡◌, Some, Ok, Err, find, MatchResult};
+ghost use Rattle.std.specs.Prelude.{◌≡◌, Some, Ok, Err, find, MatchOption, MatchResult};
 ghost use Rattle.small_card.specs.Checks.{later_refusal};
 ghost use Rattle.small_card.specs.Histories.{History, card_of, kept};
 ghost use Rattle.small_card.specs.Legal.{IsLegal};
 ghost use Rattle.small_card.specs.Managers.{is_eim};
 ghost use Rattle.small_card.specs.Ranges.{IsPackage};
 ghost use Rattle.package_codec.specs.Checks.{package_refusal};
-ghost use Rattle.counter_check.specs.Loads.{Shows, check_heard};
+ghost use Rattle.counter_check.specs.Loads.{IsCardOf, IsForEntry, Passes, check_request};
 
 use crate::received::{Received, refused};
 use eim_table::Eims;
 use result_store::Store;
 use sgp_values::Eid;
+use small_card::codes::load::{
+    BAD_VERDICT, NO_ROOM, REPLAY, UNKNOWN_EIM, WRONG_ASSOCIATION, WRONG_EID,
+};
 use small_card::{EimEntry, Package, Refused};
 use std::marker::Model;
-
-// Codes of a refusal.
-const UNKNOWN_EIM: u8 = 2;
-
-const BAD_VERDICT: u8 = 3;
-
-const WRONG_EID: u8 = 4;
-
-const WRONG_ASSOCIATION: u8 = 5;
-
-const REPLAY: u8 = 6;
-
-const NO_ROOM: u8 = 7;
 
 /// A package that passed all checks of the card that it was checked against.
 #[derive(Debug, Drop)]
@@ -45,8 +35,9 @@ impl Model for Checked {
 }
 
 // The checks after the verdict, against the entry of the package's eIM.
-fn later(load: &Package, eid: &Eid, entry: &EimEntry, store: &Store) -> Option<Refused>
-    ensures { (h : History) → IsLegal h → (card_of h).eid ≡ eid.now → (card_of h).results ≡ store.now
+fn entry_refusal(load: &Package, eid: &Eid, entry: &EimEntry, store: &Store) -> Option<Refused>
+    ensures passes { MatchOption result (IsForEntry load.now eid.now entry.now store.now) (λ _. ¬ IsForEntry load.now eid.now entry.now store.now) }
+    ensures first { (h : History) → IsLegal h → (card_of h).eid ≡ eid.now → (card_of h).results ≡ store.now
         → find (is_eim load.now.eim) (card_of h).managers.entries ≡ Some entry.now
         → later_refusal (card_of h) (kept h load.now.eim load.now.association) load.now ≡ result }
 {
@@ -71,7 +62,9 @@ fn later(load: &Package, eid: &Eid, entry: &EimEntry, store: &Store) -> Option<R
 
 // The first check that the package fails.
 fn refusal(good: bool, load: &Package, eid: &Eid, eims: &Eims, store: &Store) -> Option<Refused>
-    ensures { (h : History) → Shows h eid.now eims.now store.now → package_refusal h good load.now ≡ result }
+    ensures passes { MatchOption result (Passes (record { good = good; load = load.now }) eid.now eims.now store.now)
+        (λ _. ¬ Passes (record { good = good; load = load.now }) eid.now eims.now store.now) }
+    ensures first { (h : History) → IsCardOf h eid.now eims.now store.now → package_refusal h good load.now ≡ result }
 {
     let Some(entry) = eims.find(&load.eim) else {
         return Some(refused(UNKNOWN_EIM));
@@ -79,7 +72,7 @@ fn refusal(good: bool, load: &Package, eid: &Eid, eims: &Eims, store: &Store) ->
     if !good {
         return Some(refused(BAD_VERDICT));
     }
-    later(load, eid, &entry, store)
+    entry_refusal(load, eid, &entry, store)
 }
 
 impl Received {
@@ -90,8 +83,10 @@ impl Received {
     /// The first of these that applies: code 2 no such eIM, 3 a bad verdict, 4 another card's EID,
     /// 5 another association, 6 a counter that isn't above the kept one, 7 no room for a result.
     pub fn check(self, eid: &Eid, eims: &Eims, store: &Store) -> Result<Checked, Refused>
-        ensures checked { (h : History) → Shows h eid.now eims.now store.now
-            → MatchResult result (λ accepted. check_heard h self ≡ Ok accepted) (λ why. check_heard h self ≡ Err why) }
+        ensures passes { MatchResult result (λ accepted. Passes self eid.now eims.now store.now × (accepted ≡ self.load))
+            (λ _. ¬ Passes self eid.now eims.now store.now) }
+        ensures checked { (h : History) → IsCardOf h eid.now eims.now store.now
+            → MatchResult result (λ accepted. check_request h self ≡ Ok accepted) (λ why. check_request h self ≡ Err why) }
     {
         let Received { good, load } = self;
         match refusal(good, &load, eid, eims, store) {

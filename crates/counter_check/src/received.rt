@@ -3,21 +3,15 @@ ghost use Rattle.small_card.specs.Histories.{History};
 ghost use Rattle.small_card.specs.Checks.{refused};
 ghost use Rattle.package_codec.specs.Checks.{check};
 ghost use Rattle.small_card.specs.declared.types.Refused.{Refused};
-ghost use Rattle.counter_check.specs.Loads.{IsRead, check_heard};
+ghost use Rattle.counter_check.specs.Loads.{IsRead, check_request};
 
 use iot_bytes::ReadError;
 use package_codec::read_signed;
+use small_card::codes::load::{MALFORMED, TOO_LONG};
+use small_card::limits::MOST_PACKAGE_OCTETS;
 use small_card::{Package, Refused};
 use std::alloc::Global;
 use std::marker::Model;
-
-/// The most octets that a package may have.
-pub const MOST_OCTETS: usize = 4096;
-
-// Codes of a refusal.
-const MALFORMED: u8 = 1;
-
-const TOO_LONG: u8 = 8;
 
 /// A package that was read, with the verdict on its signature.
 #[derive(Debug, Drop)]
@@ -27,10 +21,10 @@ pub struct Received {
 }
 
 impl Model for Received {
-    ghost use Rattle.counter_check.specs.Loads.{Heard};
+    ghost use Rattle.counter_check.specs.Loads.{Request};
     ghost use Rattle.small_card.specs.Ranges.{IsPackage};
 
-    ghost Value = { Heard };
+    ghost Value = { Request };
 
     ghost view = { λ r. record { good = r.good; load = r.load } };
 
@@ -64,11 +58,11 @@ impl Received {
     /// # Errors
     /// Code 8 where it has more than 4,096 octets, else code 1 where it is malformed.
     pub fn parse(alloc: Global, good: bool, bytes: &[u8]) -> Result<Received, ParseEnd>
-        ensures read { IfOk result (λ heard. IsRead good bytes.now heard) }
-        ensures checked { IfOk result (λ heard. (h : History) → check h good bytes.now ≡ check_heard h heard) }
+        ensures read { IfOk result (λ request. IsRead good bytes.now request) }
+        ensures checked { IfOk result (λ request. (h : History) → check h good bytes.now ≡ check_request h request) }
         ensures refused { (why : Refused) → result ≡ Err (ParseEnd.Refused why) → (h : History) → check h good bytes.now ≡ Err why }
     {
-        if bytes.len() > MOST_OCTETS {
+        if bytes.len() > MOST_PACKAGE_OCTETS {
             return Err(ParseEnd::Refused(refused(TOO_LONG)));
         }
         match read_signed(alloc, bytes) {

@@ -142,8 +142,8 @@ fn a_package_passes(rt: HostRuntime) -> Result<(), Fail> {
         eims_of(rt.alloc())?,
         Store::new(rt.alloc(), 1)?,
     );
-    let heard = received(rt.alloc(), true, &list_package(b'1', 15, 2, 6))?;
-    let Ok(checked) = heard.check(&eid, &eims, &store) else {
+    let request = received(rt.alloc(), true, &list_package(b'1', 15, 2, 6))?;
+    let Ok(checked) = request.check(&eid, &eims, &store) else {
         return Err("a package that passes was expected".into());
     };
     let load = checked.package();

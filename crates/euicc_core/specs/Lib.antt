@@ -1,3 +1,2 @@
 pub mod FullCards
-pub mod Packages
 pub mod Steps

@@ -1,7 +1,7 @@
 ghost use Rattle.std.specs.Prelude.{◌≡◌, IfOk, MatchOption};
 ghost use Rattle.small_card.specs.Valid.{IsValid};
 
-use crate::stepping::step;
+use crate::stepping::turn;
 use eim_table::Eims;
 use iot_bytes::NoMemory;
 use profile_table::Table;
@@ -22,6 +22,15 @@ pub struct Card {
     pub eims: Eims,
     pub store: Store,
     pub armed: Option<Armed>,
+}
+
+/// What a command makes of a card.
+#[derive(Debug, Drop)]
+pub enum Turn {
+    /// The card stays, and this is the answer.
+    Same(Answer),
+    /// This card takes its place, with this answer.
+    Changed(Card, Answer),
 }
 
 /// How a step ends.
@@ -53,17 +62,18 @@ impl Model for EuiccCard {
 }
 
 impl EuiccCard {
-    ghost use Rattle.euicc_core.specs.FullCards.{full_card, fresh};
+    ghost use Rattle.euicc_core.specs.FullCards.{full_card};
+    ghost use Rattle.small_card.specs.Fresh.{fresh};
     ghost use Rattle.small_card.specs.Ranges.{IsCommand};
-    ghost use Rattle.euicc_core.specs.Steps.{IsInRange, Steps};
+    ghost use Rattle.euicc_core.specs.Steps.{IsInRange, Steps, answer_of, left_by};
 
     /// A card with these profiles, no eIM and no result.
-    #[tactic(auto, unfolding(crate::specs::FullCards::fresh))]
+    #[tactic(auto, unfolding(small_card::specs::Fresh::fresh))]
     pub fn personalise(alloc: Global, eid: Eid, profiles: Table) -> Result<EuiccCard, NoMemory>
         ensures fresh { IfOk result (λ made. made ≡ fresh eid profiles) }
     {
         let _range = eid.octets();
-        let _valid = profiles.rows();
+        profiles.in_range();
         Ok(EuiccCard {
             card: Card {
                 eid,
@@ -81,11 +91,28 @@ impl EuiccCard {
         ensures no_memory { result ≡ StepEnd.NoMemory → self.new ≡ self.old }
         ensures range { IsCommand command → IsInRange result }
     {
-        step(alloc, &mut self.card, command)
+        match turn(alloc, &self.card, command) {
+            Ok(end) => StepEnd::Answered(self.take_over(end)),
+            Err(NoMemory) => StepEnd::NoMemory,
+        }
     }
 
-    /// The parts of the card. It takes no memory, and is never none yet: only a card on a chip may
-    /// be dark.
+    // Takes over the card of a turn, if there is another, and gives the answer.
+    fn take_over(&mut self, end: Turn) -> Answer
+        requires valid { IsValid (left_by self.old end) }
+        ensures card { self.new ≡ left_by self.old end }
+        ensures answer { result ≡ answer_of end }
+    {
+        match end {
+            Turn::Same(answer) => answer,
+            Turn::Changed(card, answer) => {
+                self.card = card;
+                answer
+            }
+        }
+    }
+
+    /// The parts of the card. It takes no memory.
     pub fn card(&self) -> Option<&Card>
         ensures parts { MatchOption result ⊥ (λ parts. full_card parts.now ≡ self.now) }
         ensures valid { IsValid self.now }

@@ -8,7 +8,8 @@ mod loading;
 mod stepping;
 mod units;
 
-pub use card::{Card, EuiccCard, StepEnd};
+pub use card::{Card, EuiccCard, StepEnd, Turn};
+pub use stepping::turn;
 
 #[cfg(test)]
 mod tests;

@@ -1,28 +1,25 @@
-ghost use Rattle.std.specs.Prelude.{◌≡◌};
+ghost use Rattle.std.specs.Prelude.{IfOk};
 ghost use Rattle.small_card.specs.declared.types.Command.TheVariants as command;
 ghost use Rattle.euicc_core.specs.FullCards.{full_card};
-ghost use Rattle.euicc_core.specs.Steps.{Steps};
+ghost use Rattle.euicc_core.specs.Steps.{Turns};
 
-use crate::card::{Card, StepEnd};
+use crate::card::{Card, Turn};
+use iot_bytes::NoMemory;
 use small_card::Answer;
 use std::alloc::Global;
 
 /// Answers with the pending results.
-pub(crate) fn list_results(alloc: Global, card: &Card) -> StepEnd
-    ensures { Steps command.Results (full_card card.now) (full_card card.now) result }
+pub(crate) fn list_results(alloc: Global, card: &Card) -> Result<Turn, NoMemory>
+    ensures turns { IfOk result (λ end. Turns command.Results (full_card card.now) end) }
 {
-    match card.store.list(alloc) {
-        Ok(rows) => StepEnd::Answered(Answer::Results(rows)),
-        Err(_) => StepEnd::NoMemory,
-    }
+    let rows = card.store.list(alloc)?;
+    Ok(Turn::Same(Answer::Results(rows)))
 }
 
 /// Answers with the eIMs, without their keys.
-pub(crate) fn list_eims(alloc: Global, card: &Card) -> StepEnd
-    ensures { Steps command.Eims (full_card card.now) (full_card card.now) result }
+pub(crate) fn list_eims(alloc: Global, card: &Card) -> Result<Turn, NoMemory>
+    ensures turns { IfOk result (λ end. Turns command.Eims (full_card card.now) end) }
 {
-    match card.eims.list(alloc) {
-        Ok(rows) => StepEnd::Answered(Answer::Eims(rows)),
-        Err(_) => StepEnd::NoMemory,
-    }
+    let rows = card.eims.list(alloc)?;
+    Ok(Turn::Same(Answer::Eims(rows)))
 }

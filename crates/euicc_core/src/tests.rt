@@ -1,10 +1,8 @@
 //! What no clause says: that the calls succeed where there is memory, and the rules on examples.
 
 use super::*;
-use dice::Dice;
 use iot_bytes::Row;
 use packages::octets_of;
-use plain::PlainCard;
 use profile_table::Table;
 use sgp_values::{Address, Eid, EimId, Iccid, Key, Nickname, OutOfRange};
 use small_card::{Answer, Body, Command, Eco, Package, Profile, Psmo};
@@ -13,9 +11,7 @@ use std::process::Abort;
 use std::test::Fail;
 use texts::{answer_text, card_text};
 
-mod dice;
 mod packages;
-mod plain;
 mod texts;
 
 fn card_eid() -> Result<Eid, OutOfRange> {
@@ -89,13 +85,17 @@ fn load_of_eims(alloc: Global, counter: u64) -> Result<Command, Fail> {
 }
 
 /// The command of a letter: 'r' rolls back, a digit removes that result, 'l' and 'e' load a package
-/// that lists profiles or eIMs, 'x' is a replay, and 'p' personalises again.
+/// that lists profiles or eIMs, 'x' is a replay, 'p' personalises again, 'i' associates a first eIM,
+/// and 's' and 't' list results and eIMs.
 fn command_of(alloc: Global, letter: u8) -> Result<Command, Fail> {
     match letter {
         b'r' => Ok(Command::Rollback),
         b'l' => load_of(alloc, 2, &[Psmo::List]),
         b'e' => load_of_eims(alloc, 2),
         b'x' => load_of(alloc, 1, &[Psmo::List]),
+        b'i' => Ok(initial(b"e2")?),
+        b's' => Ok(Command::Results),
+        b't' => Ok(Command::Eims),
         b'p' => Ok(Command::Personalise {
             eid: Eid::of(&[9; 16])?,
             profiles: Row::new(alloc),
@@ -108,7 +108,7 @@ fn command_of(alloc: Global, letter: u8) -> Result<Command, Fail> {
 
 fn shown(alloc: Global, card: &EuiccCard) -> Result<String, Fail> {
     let Some(card) = card.card() else {
-        return Err("a card is never dark yet".into());
+        return Err("the card is dark".into());
     };
     card_text(
         alloc,
@@ -174,7 +174,7 @@ fn worked_rollbacks(rt: HostRuntime) -> Result<(), Fail> {
         [disable, delete, enable],
         [enable, delete],
     );
-    let cases: [(&[Psmo], &[u8], &str); 9] = [
+    let cases: [(&[Psmo], &[u8], &str); 10] = [
         (
             &moved,
             b"r",
@@ -214,6 +214,11 @@ fn worked_rollbacks(rt: HostRuntime) -> Result<(), Fail> {
             &[enable],
             b"lr1",
             "loaded 1 enable=0; loaded 2 profiles=-A+B-C; not permitted; removed; -A+B-C e1/1/2 2/e1/1/2 profiles=-A+B-C",
+        ),
+        (
+            &[enable],
+            b"ist",
+            "loaded 1 enable=0; initial refused 1;  1/e1/1/1 enable=0;  e1/1/1/[]; -A+B-C e1/1/1 1/e1/1/1 enable=0",
         ),
         (
             &[enable],
@@ -278,95 +283,4 @@ fn nine_loads(rt: HostRuntime) -> Result<(), Fail> {
     let mut card = card_with_eim(rt.alloc())?;
     let results = eight_loads(&rt, rt.alloc(), &mut card)?;
     check_ninth(&rt, rt.alloc(), &mut card, results.as_str())
-}
-
-fn plain_card(alloc: Global, enabled: u8) -> Result<PlainCard, Fail> {
-    Ok(PlainCard {
-        eid: card_eid()?,
-        profiles: profiles_of(alloc, enabled)?,
-        entries: Row::new(alloc),
-        association: 1,
-        results: Row::new(alloc),
-        seq: 1,
-        armed: None,
-    })
-}
-
-fn check_alike(
-    rt: &impl Abort,
-    alloc: Global,
-    card: &EuiccCard,
-    plain: &PlainCard,
-) -> Result<(), Fail> {
-    let (profiles, entries) = (plain.profiles.as_slice(), plain.entries.as_slice());
-    let text = card_text(alloc, profiles, entries, plain.results.as_slice())?;
-    assert_eq!(rt; shown(alloc, card)?.as_str(), text.as_str());
-    let Some(card) = card.card() else {
-        return Err("a card is never dark yet".into());
-    };
-    assert_eq!(rt; card.eid, plain.eid);
-    assert_eq!(rt; card.profiles.rows(), profiles);
-    assert_eq!(rt; card.eims.rows(), entries);
-    assert_eq!(rt; card.eims.next(), plain.association);
-    assert_eq!(rt; card.store.next(), plain.seq);
-    assert_eq!(rt; card.armed, plain.armed);
-    Ok(())
-}
-
-/// A place for each kind of answer and each code of a refused load, to see that all of them come. The
-/// packages that are drawn are in the grammar, so codes 1 and 8 don't come.
-fn place_of(answer: &Answer) -> usize {
-    match answer {
-        Answer::LoadRefused(why) => usize::from(why.code),
-        Answer::Loaded(_) => 0,
-        Answer::RolledBack { seq: _ } => 1,
-        Answer::NotPermitted => 8,
-        Answer::Removed => 9,
-        Answer::Absent => 10,
-        Answer::Results(_) => 11,
-        Answer::Eims(_) => 12,
-        Answer::Associated { association: _ } => 13,
-        Answer::InitialRefused { code: _ } => 14,
-        Answer::Personalised | Answer::Malformed | Answer::AlreadyPersonal => 15,
-    }
-}
-
-/// Carries out a drawn command both ways, and gives the place of its answer.
-fn check_step(
-    rt: &impl Abort,
-    alloc: Global,
-    dice: &mut Dice,
-    card: &mut EuiccCard,
-    plain: &mut PlainCard,
-) -> Result<usize, Fail> {
-    let asked = dice.command(alloc, plain)?;
-    let wanted = plain.step(alloc, &asked)?;
-    let text = answer_text(alloc, &wanted)?;
-    check_told(rt, alloc, card, asked.command(alloc)?, text.as_str())?;
-    Ok(place_of(&wanted))
-}
-
-fn check_list(rt: &impl Abort, alloc: Global, seed: u32, seen: &mut [u8; 16]) -> Result<(), Fail> {
-    let mut dice = Dice { state: seed };
-    let enabled = dice.roll(4) as u8;
-    let mut card = personal_card(alloc, enabled)?;
-    let mut plain = plain_card(alloc, enabled)?;
-    for _ in 0..40 {
-        let place = check_step(rt, alloc, &mut dice, &mut card, &mut plain)?;
-        check_alike(rt, alloc, &card, &plain)?;
-        if let Some(mark) = seen.get_mut(place) {
-            *mark = 1;
-        }
-    }
-    Ok(())
-}
-
-#[test]
-fn the_plain_program_answers_the_same(rt: HostRuntime) -> Result<(), Fail> {
-    let mut seen = [0; 16];
-    for seed in 0..300 {
-        check_list(&rt, rt.alloc(), seed, &mut seen)?;
-    }
-    assert_eq!(rt; seen, [1, 1, 1, 1, 1, 1, 1, 1, 1, 1, 1, 1, 1, 1, 1, 0]);
-    Ok(())
 }

@@ -2,77 +2,56 @@ ghost use Rattle.std.specs.Prelude.{◌≡◌, [], ◌∷◌, not, Some, IfOk};
 ghost use Rattle.sgp_values.specs.Ranges.{IsEimId, IsAddress, IsKey};
 ghost use Rattle.small_card.specs.Managers.{is_empty_list};
 ghost use Rattle.small_card.specs.Histories.{unless_ended};
-ghost use Rattle.small_card.specs.Profiles.{enabled_alone};
-ghost use Rattle.small_card.specs.Units.{marked, remove as removal};
+ghost use Rattle.small_card.specs.Units.{remove as removal};
 ghost use Rattle.small_card.specs.Valid.{IsValid};
 ghost use Rattle.small_card.specs.declared.types.Command.TheVariants as command;
-ghost use Rattle.rollback_unit.specs.Rolls.{MayRoll};
 ghost use Rattle.euicc_core.specs.FullCards.{full_card};
-ghost use Rattle.euicc_core.specs.Steps.{Steps};
+ghost use Rattle.euicc_core.specs.Steps.{Turns};
 
-use crate::card::{Card, StepEnd};
-use eim_table::Eims;
+use crate::card::{Card, Turn};
+use eim_table::{AddEnd, Eims};
 use iot_bytes::NoMemory;
-use result_store::RemoveEnd;
-use rollback_unit::{Rolled, permitted, roll};
+use rollback_unit::{permitted, roll};
 use sgp_values::{Address, EimId, Key};
+use small_card::codes::initial::{EIM_THERE, NO_ASSOCIATION_LEFT};
 use small_card::{Answer, Armed};
 use std::alloc::Global;
 
-// Codes of a refused first eIM.
-const EIM_THERE: u8 = 1;
-
-const NO_ASSOCIATION_LEFT: u8 = 2;
-
-/// The association that is never given out.
-const LAST_ASSOCIATION: u32 = u32::MAX;
-
-// The card after a rollback, on copies of its profiles and its results.
-fn rolled(alloc: Global, card: &Card, armed: Armed) -> Result<Rolled, NoMemory>
-    requires { MayRoll card.now.profiles card.now.store armed }
-    ensures table { IfOk result (λ end. end.table ≡ enabled_alone armed.former card.now.profiles) }
-    ensures store { IfOk result (λ end. end.store ≡ marked armed.seq card.now.store) }
-    ensures number { IfOk result (λ end. end.seq ≡ card.now.store.next) }
-{
-    let table = card.profiles.copy(alloc)?;
-    let store = card.store.copy(alloc)?;
-    Ok(roll(table, store, armed))
-}
-
 // Rolls back to what is armed.
-fn roll_back_to(alloc: Global, card: &mut Card, armed: Armed) -> StepEnd
-    requires armed { card.old.armed ≡ Some armed }
-    requires valid { IsValid (full_card card.old) }
-    ensures steps { Steps command.Rollback (full_card card.old) (full_card card.new) result }
-    ensures no_memory { result ≡ StepEnd.NoMemory → card.new ≡ card.old }
+fn roll_back_to(alloc: Global, card: &Card, armed: Armed) -> Result<Turn, NoMemory>
+    requires armed { card.now.armed ≡ Some armed }
+    requires valid { IsValid (full_card card.now) }
+    ensures turns { IfOk result (λ end. Turns command.Rollback (full_card card.now) end) }
 {
-    match rolled(alloc, card, armed) {
-        Ok(end) => {
-            card.profiles = end.table;
-            card.store = end.store;
-            card.armed = None;
-            StepEnd::Answered(Answer::RolledBack { seq: end.seq })
-        }
-        Err(NoMemory) => StepEnd::NoMemory,
-    }
+    let profiles = card.profiles.copy(alloc)?;
+    let eims = card.eims.copy(alloc)?;
+    let store = card.store.copy(alloc)?;
+    let rolled = roll(profiles, store, armed);
+    let next = Card {
+        eid: card.eid,
+        profiles: rolled.table,
+        eims,
+        store: rolled.store,
+        armed: None,
+    };
+    Ok(Turn::Changed(next, Answer::RolledBack { seq: rolled.seq }))
 }
 
 /// Answers a rollback: it is permitted where one is armed.
-pub(crate) fn roll_back(alloc: Global, card: &mut Card) -> StepEnd
-    requires { IsValid (full_card card.old) }
-    ensures steps { Steps command.Rollback (full_card card.old) (full_card card.new) result }
-    ensures no_memory { result ≡ StepEnd.NoMemory → card.new ≡ card.old }
+pub(crate) fn roll_back(alloc: Global, card: &Card) -> Result<Turn, NoMemory>
+    requires valid { IsValid (full_card card.now) }
+    ensures turns { IfOk result (λ end. Turns command.Rollback (full_card card.now) end) }
 {
     match permitted(&card.armed).copied() {
         Some(armed) => roll_back_to(alloc, card, armed),
-        None => StepEnd::Answered(Answer::NotPermitted),
+        None => Ok(Turn::Same(Answer::NotPermitted)),
     }
 }
 
 // What stays armed where the result with this number leaves.
 #[tactic(auto, unfolding(small_card::specs::Histories::unless_ended, small_card::specs::Histories::ends))]
 fn armed_without(armed: Option<Armed>, seq: u32) -> Option<Armed>
-    ensures { result ≡ unless_ended (removal seq ∷ []) armed }
+    ensures armed { result ≡ unless_ended (removal seq ∷ []) armed }
 {
     match armed {
         Some(kept) => { if seq == kept.seq { None } else { Some(kept) } }
@@ -81,23 +60,30 @@ fn armed_without(armed: Option<Armed>, seq: u32) -> Option<Armed>
 }
 
 /// Answers the removal of a result, as its eIM has recorded it.
-pub(crate) fn remove(card: &mut Card, seq: u32) -> StepEnd
-    ensures steps { Steps (command.Remove seq) (full_card card.old) (full_card card.new) result }
-    ensures memory { result ≡ StepEnd.NoMemory → ⊥ }
+pub(crate) fn remove(alloc: Global, card: &Card, seq: u32) -> Result<Turn, NoMemory>
+    ensures turns { IfOk result (λ end. Turns (command.Remove seq) (full_card card.now) end) }
 {
-    match card.store.remove(seq) {
-        RemoveEnd::Removed => {
-            card.armed = armed_without(card.armed, seq);
-            StepEnd::Answered(Answer::Removed)
-        }
-        RemoveEnd::Absent => StepEnd::Answered(Answer::Absent),
+    if card.store.get(seq).is_none() {
+        return Ok(Turn::Same(Answer::Absent));
     }
+    let profiles = card.profiles.copy(alloc)?;
+    let eims = card.eims.copy(alloc)?;
+    let mut store = card.store.copy(alloc)?;
+    let _ = store.remove(seq);
+    let next = Card {
+        eid: card.eid,
+        profiles,
+        eims,
+        store,
+        armed: armed_without(card.armed, seq),
+    };
+    Ok(Turn::Changed(next, Answer::Removed))
 }
 
 // Whether the card has an eIM.
 #[tactic(auto, unfolding(small_card::specs::Managers::is_empty_list))]
 fn has_eims(eims: &Eims) -> bool
-    ensures { result ≡ not (is_empty_list eims.now.entries) }
+    ensures some { result ≡ not (is_empty_list eims.now.entries) }
 {
     match eims.rows() {
         [] => false,
@@ -105,8 +91,8 @@ fn has_eims(eims: &Eims) -> bool
     }
 }
 
-// The values of an eIM are in their ranges.
-fn ranges(id: &EimId, address: &Address, key: &Key)
+// The values of an eIM are in their ranges: this tells a proof so, and does nothing.
+fn in_range(id: &EimId, address: &Address, key: &Key)
     ensures id { IsEimId id.now }
     ensures address { IsAddress address.now }
     ensures key { IsKey key.now }
@@ -117,20 +103,35 @@ fn ranges(id: &EimId, address: &Address, key: &Key)
 }
 
 /// Answers the association of the first eIM.
-pub(crate) fn associate(card: &mut Card, id: EimId, address: Address, key: Key) -> StepEnd
-    ensures steps { Steps (command.Initial id address key) (full_card card.old) (full_card card.new) result }
-    ensures memory { result ≡ StepEnd.NoMemory → ⊥ }
+pub(crate) fn associate(
+    alloc: Global,
+    card: &Card,
+    id: EimId,
+    address: Address,
+    key: Key,
+) -> Result<Turn, NoMemory>
+    ensures turns { IfOk result (λ end. Turns (command.Initial id address key) (full_card card.now) end) }
 {
     if has_eims(&card.eims) {
-        return StepEnd::Answered(Answer::InitialRefused { code: EIM_THERE });
+        return Ok(Turn::Same(Answer::InitialRefused { code: EIM_THERE }));
     }
-    let association = card.eims.next();
-    if association == LAST_ASSOCIATION {
-        return StepEnd::Answered(Answer::InitialRefused {
+    in_range(&id, &address, &key);
+    let profiles = card.profiles.copy(alloc)?;
+    let store = card.store.copy(alloc)?;
+    let mut eims = card.eims.copy(alloc)?;
+    match eims.add(id, address, key) {
+        AddEnd::Added(association) => {
+            let next = Card {
+                eid: card.eid,
+                profiles,
+                eims,
+                store,
+                armed: card.armed,
+            };
+            Ok(Turn::Changed(next, Answer::Associated { association }))
+        }
+        AddEnd::Refused(_) => Ok(Turn::Same(Answer::InitialRefused {
             code: NO_ASSOCIATION_LEFT,
-        });
+        })),
     }
-    ranges(&id, &address, &key);
-    let _added = card.eims.add(id, address, key);
-    StepEnd::Answered(Answer::Associated { association })
 }

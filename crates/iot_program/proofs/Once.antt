@@ -12,7 +12,7 @@ use Rattle.package_codec.proofs.Replying.{after_legal}
 use Rattle.result_codec.specs.Laws.{AreOctets}
 use Rattle.es10_codec.specs.Reading.{command_at}
 use Rattle.es10_codec.proofs.CommandCodec.{command_codec}
-use Rattle.euicc_core.specs.FullCards.{fresh}
+use Rattle.small_card.specs.Fresh.{fresh}
 use Rattle.iot_program.specs.Cards.{started, start_of, after_frame, history_of, history_after}
 use Rattle.iot_program.proofs.Histories.{map_some}
 use Rattle.iot_program.proofs.Replying.{fresh_legal, fresh_valid, values}

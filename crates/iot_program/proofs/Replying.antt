@@ -13,7 +13,7 @@ use Rattle.small_card.specs.declared.types.Command.TheVariants.{Personalise}
 use Rattle.small_card.specs.declared.types.Profile.{Profile}
 use Rattle.small_card.proofs.Validity.{full_start}
 use Rattle.es10_codec.specs.Reading.{command_at}
-use Rattle.euicc_core.specs.FullCards.{fresh}
+use Rattle.small_card.specs.Fresh.{fresh}
 use Rattle.euicc_core.specs.Steps.{IsAnswered}
 use Rattle.iot_program.specs.Cards.{reply_to, after_frame}
 use Rattle.iot_program.specs.Steps.{IsReplied, IsBegun}

@@ -10,7 +10,7 @@ use Rattle.small_card.specs.declared.types.Command.TheVariants.{Personalise}
 use Rattle.package_codec.specs.Replies.{reply, after}
 use Rattle.es10_codec.specs.Reading.{command_at}
 use Rattle.es10_codec.specs.Spelling.{answer, stopped}
-use Rattle.euicc_core.specs.FullCards.{fresh}
+use Rattle.small_card.specs.Fresh.{fresh}
 
 -- The history of the card that a command personalises: no unit yet.
 abbrev pub started : Option Command → Option History

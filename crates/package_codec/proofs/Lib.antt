@@ -4,3 +4,4 @@ pub mod Bodies
 pub mod Packages
 pub mod Replying
 pub mod InRange
+pub mod Malformed

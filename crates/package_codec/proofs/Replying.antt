@@ -33,7 +33,7 @@ use Rattle.small_card.proofs.ManagerLemmas.{eco_keeps}
 use Rattle.small_card.proofs.Validity.{legal_valid}
 use Rattle.package_codec.specs.Checks.{verdict_refusal, package_refusal, unless_refused, check_read, check, most_octets}
 use Rattle.package_codec.specs.Reading.{signed_at}
-use Rattle.package_codec.specs.Replies.{load_reply, load_after, rollback_reply, rollback_after, initial_reply, reply, after, after_all}
+use Rattle.package_codec.specs.Replies.{load_reply, rollback_reply, initial_reply, reply, unit_of_load, unit_of_rollback, unit_of_initial, unit_of, grown, after, after_all}
 
 -- what is read from octets is in range
 abbrev pub ReadsInRange : Type 0
@@ -107,48 +107,69 @@ valid_card h v = v.card
 next_managers : (h : History) → IsValid (full_of h) → IsNumber (card_of h).managers.next
 next_managers h v = (valid_card h v).managers.next
 
-load_legal : ReadsInRange → (h : History) (bytes : List ℕ) (r : Result Package Refused) → AllPass is_octet bytes → IsLegal h → ((p : Package) → r ≡ Ok p → IsAccepted h bytes p) → IsLegal (load_after h r)
-load_legal range h bytes (Ok p) octets l ok =
+load_may : ReadsInRange → (h : History) (bytes : List ℕ) (r : Result Package Refused) (u : CardUnit) → AllPass is_octet bytes → ((p : Package) → r ≡ Ok p → IsAccepted h bytes p) → unit_of_load r ≡ Some u → May h u
+load_may range h bytes (Ok p) u octets ok e =
     let a = ok p refl in
     let s = range bytes a.read.0 octets a.read.1 in
-    more_legal h (load p) l (may_load h p (subst IsPackage a.read.2 s.«package») a.values)
-load_legal range h bytes (Err r) octets l ok = l
+    let same : load p ≡ u = cc in
+    subst (May h) same (may_load h p (subst IsPackage a.read.2 s.«package») a.values)
+load_may range h bytes (Err r) u octets ok e = absurd cc
 
-roll_legal : (h : History) (o : Option Armed) → former_of h ≡ o → IsLegal h → IsLegal (rollback_after h o)
-roll_legal h (Some armed) e l = more_legal h rollback l (may_roll h armed e)
-roll_legal h None e l = l
+roll_may : (h : History) (o : Option Armed) (u : CardUnit) → former_of h ≡ o → unit_of_rollback o ≡ Some u → May h u
+roll_may h (Some armed) u e f = let same : rollback ≡ u = cc in subst (May h) same (may_roll h armed e)
+roll_may h None u e f = absurd cc
 
-initial_legal : (h : History) (id address key : List ℕ) → IsCommand (command.Initial id address key) → IsLegal h → IsLegal (after h (command.Initial id address key))
-unfolding after IsCommand May last_association
-initial_legal h id address key range l =
+remove_may : (h : History) (seq : ℕ) (u : CardUnit) → unit_of h (command.Remove seq) ≡ Some u → May h u
+unfolding unit_of
+remove_may h seq u e =
+    elim (is_pending seq (card_of h).results.pending) as (λ b. is_pending seq (card_of h).results.pending ≡ b → cond {A = Option CardUnit} b (Some (remove seq)) None ≡ Some u → May h u) [
+      | true ↦ λ there f. let same : remove seq ≡ u = cc in subst (May h) same (may_remove h seq there)
+      | false ↦ λ none f. absurd cc
+    ] refl e
+
+may_initial : (h : History) (id address key : List ℕ) → IsCommand (command.Initial id address key) → IsLegal h → is_empty_list (card_of h).managers.entries ≡ true → ((card_of h).managers.next == last_association) ≡ false → May h (initial id address key)
+unfolding IsCommand May last_association
+may_initial h id address key range l empty left = record {
+  id = range.0;
+  address = range.1;
+  key = range.2;
+  empty = empty_list (card_of h).managers.entries empty;
+  next =
+      let valid : IsValid (full_of h) = legal_valid h l in
+      let ne : (card_of h).managers.next ≢ 4294967295 = eqb-false _ _ left in
+      omega (arith, ne, (next_managers h valid).fits);
+}
+
+initial_may : (h : History) (id address key : List ℕ) (u : CardUnit) → IsCommand (command.Initial id address key) → IsLegal h → unit_of_initial (card_of h).managers id address key ≡ Some u → May h u
+initial_may h id address key u range l e =
     let ms = (card_of h).managers in
-    cond_both (not (is_empty_list ms.entries)) h (cond (ms.next == last_association) h (with_unit h (initial id address key))) IsLegal
-    (λ _. l)
-    (λ empty. cond_both (ms.next == last_association) h (with_unit h (initial id address key)) IsLegal
-    (λ _. l)
-    (λ left. more_legal h (initial id address key) l (record {
-      id = range.0;
-      address = range.1;
-      key = range.2;
-      empty = empty_list ms.entries (not-false _ empty);
-      next = let valid : IsValid (full_of h) = legal_valid h l in let ne : ms.next ≢ 4294967295 = eqb-false _ _ left in omega (arith, ne, (next_managers h valid).fits);
-    })))
+    let one : Option CardUnit = Some (initial id address key) in
+    elim (is_empty_list ms.entries) as (λ b. is_empty_list ms.entries ≡ b → cond {A = Option CardUnit} (not b) None (cond {A = Option CardUnit} (ms.next == last_association) None one) ≡ Some u → May h u) [
+      | true ↦ λ empty f. elim (ms.next == last_association) as (λ b. (ms.next == last_association) ≡ b → cond {A = Option CardUnit} b None one ≡ Some u → May h u) [
+        | true ↦ λ spent g. absurd cc
+        | false ↦ λ left g. let same : initial id address key ≡ u = cc in subst (May h) same (may_initial h id address key range l empty left)
+      ] refl f
+      | false ↦ λ some f. absurd cc
+    ] refl e
 
-remove_legal : (h : History) (seq : ℕ) → IsLegal h → IsLegal (after h (command.Remove seq))
-unfolding after
-remove_legal h seq l =
-    cond_both (is_pending seq (card_of h).results.pending) (with_unit h (remove seq)) h IsLegal
-    (λ e. more_legal h (remove seq) l (may_remove h seq e)) (λ _. l)
+-- the unit of a command may happen
+pub unit_may : ReadsInRange → (h : History) (c : Command) (u : CardUnit) → IsLegal h → IsCommand c → unit_of h c ≡ Some u → May h u
+unfolding unit_of IsCommand
+unit_may range h (command.Personalise eid profiles) u l fits e = absurd cc
+unit_may range h (command.Load good bytes) u l fits e = load_may range h bytes (check h good bytes) u fits (accepted h good bytes) e
+unit_may range h command.Rollback u l fits e = roll_may h (former_of h) u refl e
+unit_may range h (command.Remove seq) u l fits e = remove_may h seq u e
+unit_may range h command.Results u l fits e = absurd cc
+unit_may range h command.Eims u l fits e = absurd cc
+unit_may range h (command.Initial id address key) u l fits e = initial_may h id address key u fits l e
+
+grown_legal : (h : History) (o : Option CardUnit) → IsLegal h → ((u : CardUnit) → o ≡ Some u → May h u) → IsLegal (grown o h)
+grown_legal h None l may = l
+grown_legal h (Some u) l may = more_legal h u l (may u refl)
 
 pub after_legal : ReadsInRange → (h : History) (c : Command) → IsLegal h → IsCommand c → IsLegal (after h c)
-unfolding after IsCommand
-after_legal range h (command.Personalise eid profiles) l fits = l
-after_legal range h (command.Load good bytes) l fits = load_legal range h bytes (check h good bytes) fits l (accepted h good bytes)
-after_legal range h command.Rollback l fits = roll_legal h (former_of h) refl l
-after_legal range h (command.Remove seq) l fits = remove_legal h seq l
-after_legal range h command.Results l fits = l
-after_legal range h command.Eims l fits = l
-after_legal range h (command.Initial id address key) l fits = initial_legal h id address key fits l
+unfolding after
+after_legal range h c l fits = grown_legal h (unit_of h c) l (λ u e. unit_may range h c u l fits e)
 
 pub after_all_legal : ReadsInRange → (h : History) (cs : List Command) → IsLegal h → Every IsCommand cs → IsLegal (after_all h cs)
 unfolding after_all
@@ -253,7 +274,9 @@ result_fits h p l =
 
 load_fits : ReadsInRange → (h : History) (good : Bool) (bytes : List ℕ) (r : Result Package Refused) → check h good bytes ≡ r → AllPass is_octet bytes → IsLegal h → IsAnswer (load_reply h r)
 unfolding IsAnswer
-load_fits range h good bytes (Ok p) e octets l = result_fits h p (load_legal range h bytes (Ok p) octets l (λ q f. let same : p ≡ q = cc in subst (IsAccepted h bytes) same (accepted h good bytes p e)))
+load_fits range h good bytes (Ok p) e octets l =
+    let may : May h (load p) = load_may range h bytes (Ok p) (load p) octets (λ q f. let same : p ≡ q = cc in subst (IsAccepted h bytes) same (accepted h good bytes p e)) refl in
+    result_fits h p (more_legal h (load p) l may)
 load_fits range h good bytes (Err r) e octets l = check_refused range h good bytes r octets l e
 
 roll_fits : (h : History) (o : Option Armed) → IsLegal h → IsAnswer (rollback_reply h o)

@@ -1,16 +1,17 @@
 -- The checks of a load over its octets, in their order.
-use Rattle.std.specs.Prelude.{ℕ, nat_le, Bool, List, length, Option, Some, None, Result, Ok, Err, if◌then◌else◌}
+use Rattle.std.specs.Prelude.{ℕ, ◌≡◌, nat_le, Bool, List, length, Option, Some, None, Result, Ok, Err, if◌then◌else◌}
 use Rattle.std.specs.Option.{option_or}
 use Rattle.small_card.specs.Checks.{refused, eim_refusal, later_refusal}
 use Rattle.small_card.specs.Histories.{History, card_of, kept}
 use Rattle.small_card.specs.declared.types.Package.{Package}
 use Rattle.small_card.specs.declared.types.Refused.{Refused}
 use Rattle.small_card.specs.declared.types.Signed.{Signed}
+use Rattle.small_card.specs.declared.limits.TheConstants.{MOST_PACKAGE_OCTETS}
 use Rattle.package_codec.specs.Reading.{signed_at}
 
 -- The most octets that a package may have.
 abbrev pub most_octets : ℕ
-most_octets = 4096
+most_octets = MOST_PACKAGE_OCTETS
 
 -- A bad verdict on the signature.
 abbrev pub verdict_refusal : Bool → Option Refused
@@ -36,3 +37,8 @@ check_read h good (Some s) = unless_refused (package_refusal h good s.«package�
 -- malformed, then those over its values.
 unfoldable pub check : History → Bool → List ℕ → Result Package Refused
 check h good bytes = if nat_le (length bytes) most_octets then check_read h good (signed_at bytes) else Err (refused 8)
+
+-- The load is refused with this code.
+abbrev pub IsRefusedWith : ℕ → Result Package Refused → Type 0
+IsRefusedWith code (Ok p) = ⊥
+IsRefusedWith code (Err r) = r.code ≡ code

@@ -1,10 +1,10 @@
 -- What the card replies to a command, and the history after it.
-use Rattle.std.specs.Prelude.{◌==◌, List, [], ◌∷◌, map, not, Option, Some, None, Result, Ok, Err, if◌then◌else◌}
+use Rattle.std.specs.Prelude.{ℕ, ◌==◌, List, [], ◌∷◌, map, not, Option, Some, None, Result, Ok, Err, if◌then◌else◌}
 use Rattle.small_card.specs.Cards.{Managers}
 use Rattle.small_card.specs.Histories.{History, card_of, former_of, with_unit}
 use Rattle.small_card.specs.Managers.{line_of, is_empty_list, last_association}
 use Rattle.small_card.specs.Packages.{result_of}
-use Rattle.small_card.specs.Units.{initial, load, rollback, remove, is_pending}
+use Rattle.small_card.specs.Units.{CardUnit, initial, load, rollback, remove, is_pending}
 use Rattle.small_card.specs.declared.types.Answer.{Answer}
 use Rattle.small_card.specs.declared.types.Answer.TheVariants as answer
 use Rattle.small_card.specs.declared.types.Armed.{Armed}
@@ -19,19 +19,10 @@ abbrev pub load_reply : History → Result Package Refused → Answer
 load_reply h (Ok p) = answer.Loaded (result_of (card_of h) p)
 load_reply h (Err r) = answer.LoadRefused r
 
--- A package that passes the checks takes effect.
-abbrev pub load_after : History → Result Package Refused → History
-load_after h (Ok p) = with_unit h (load p)
-load_after h (Err r) = h
-
 -- A rollback is permitted where there is a former profile, and gets the next sequence number.
 abbrev pub rollback_reply : History → Option Armed → Answer
 rollback_reply h (Some armed) = answer.RolledBack (card_of h).results.next
 rollback_reply h None = answer.NotPermitted
-
-abbrev pub rollback_after : History → Option Armed → History
-rollback_after h (Some armed) = with_unit h rollback
-rollback_after h None = h
 
 -- The first eIM is refused where the card has one, or has given out its last association.
 abbrev pub initial_reply : Managers → Answer
@@ -50,18 +41,41 @@ reply h command.Results = answer.Results (card_of h).results.pending
 reply h command.Eims = answer.Eims (map line_of (card_of h).managers.entries)
 reply h (command.Initial id address key) = initial_reply (card_of h).managers
 
--- The history after a command: with its unit, where it is carried out.
+-- The unit of a load: that of the package, unless it is refused.
+abbrev pub unit_of_load : Result Package Refused → Option CardUnit
+unit_of_load (Ok p) = Some (load p)
+unit_of_load (Err r) = None
+
+-- The unit of a rollback, where there is a former profile.
+abbrev pub unit_of_rollback : Option Armed → Option CardUnit
+unit_of_rollback (Some armed) = Some rollback
+unit_of_rollback None = None
+
+-- The unit of a first eIM, unless it is refused.
+abbrev pub unit_of_initial : Managers → List ℕ → List ℕ → List ℕ → Option CardUnit
+unit_of_initial ms id address key =
+    if not (is_empty_list ms.entries) then None
+    else if ms.next == last_association then None
+    else Some (initial id address key)
+
+-- The unit of a command, none where it is refused or only lists.
+unfoldable pub unit_of : History → Command → Option CardUnit
+unit_of h (command.Personalise eid profiles) = None
+unit_of h (command.Load good bytes) = unit_of_load (check h good bytes)
+unit_of h command.Rollback = unit_of_rollback (former_of h)
+unit_of h (command.Remove seq) = if is_pending seq (card_of h).results.pending then Some (remove seq) else None
+unit_of h command.Results = None
+unit_of h command.Eims = None
+unit_of h (command.Initial id address key) = unit_of_initial (card_of h).managers id address key
+
+-- The history with this unit, if any.
+abbrev pub grown : Option CardUnit → History → History
+grown None h = h
+grown (Some u) h = with_unit h u
+
+-- The history after a command: with its unit, if any.
 unfoldable pub after : History → Command → History
-after h (command.Personalise eid profiles) = h
-after h (command.Load good bytes) = load_after h (check h good bytes)
-after h command.Rollback = rollback_after h (former_of h)
-after h (command.Remove seq) = if is_pending seq (card_of h).results.pending then with_unit h (remove seq) else h
-after h command.Results = h
-after h command.Eims = h
-after h (command.Initial id address key) =
-    if not (is_empty_list (card_of h).managers.entries) then h
-    else if (card_of h).managers.next == last_association then h
-    else with_unit h (initial id address key)
+after h c = grown (unit_of h c) h
 
 -- The history after these commands, the first of them first.
 unfoldable pub after_all : History → List Command → History

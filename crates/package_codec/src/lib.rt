@@ -15,7 +15,10 @@ pub use laws::{
     packages_have_one_spelling,
 };
 pub use reading::{read_body, read_signed};
-pub use replies::{counters_rise, histories_stay_legal, replies_are_in_range, results_go_last};
+pub use replies::{
+    counters_rise, histories_stay_legal, malformed_loads_spell_nothing, replies_are_in_range,
+    results_go_last, units_may_happen,
+};
 pub use writing::{signed_len, write_signed};
 
 #[cfg(test)]

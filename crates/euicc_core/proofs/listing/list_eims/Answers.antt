@@ -1,4 +1,4 @@
-use Rattle.std.proofs.Common.{◌∙◌, ap, sym, refl, List, map}
+use Rattle.std.proofs.Common.{◌∙◌, ap, sym, List, map}
 use Rattle.small_card.specs.Cards.{SmallCard}
 use Rattle.small_card.specs.Managers.{line_of}
 use Rattle.small_card.specs.declared.types.Answer.TheVariants as answer
@@ -8,9 +8,11 @@ use Rattle.euicc_core.specs.FullCards.{full_card}
 use Rattle.euicc_core.proofs.OneStep.{card_is, stays, eims_reply}
 use Rattle.euicc_core.proofs.listing.list_eims.Goals as goal
 
-pub returns-in-Ok : goal.returns-in-Ok
-returns-in-Ok c = λ h legal is.
-    let f = full_card c.args.card.now in
-    let r = eims_reply h in
-    let same = ap (λ (x : SmallCard). map line_of x.managers.entries) (card_is h f is) in
-    stays h command.Eims f f (answer.Eims c.in-Ok.rows) legal is r.1 (ap (λ (rows : List EimLine). answer.Eims rows) (c.in-Ok.ensures.lines ∙ sym same) ∙ r.0) refl
+pub returns : goal.returns
+returns c = record {
+  turns = λ h legal is.
+      let f = full_card c.args.card.now in
+      let r = eims_reply h in
+      let same = ap (λ (x : SmallCard). map line_of x.managers.entries) (card_is h f is) in
+      stays h command.Eims f (answer.Eims c.in_ok-rows.rows) legal is r.1 (ap (λ (rows : List EimLine). answer.Eims rows) (c.in_ok-rows.ensures.lines ∙ sym same) ∙ r.0);
+}

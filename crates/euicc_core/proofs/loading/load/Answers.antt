@@ -5,9 +5,11 @@ use Rattle.euicc_core.specs.FullCards.{full_card}
 use Rattle.euicc_core.proofs.OneStep.{stays, refused_reply}
 use Rattle.euicc_core.proofs.loading.load.Goals as goal
 
-pub returns-in-Err-Refused-clause-steps : goal.returns-in-Err-Refused-clause-steps
-returns-in-Err-Refused-clause-steps c = λ h legal is.
-    let f = full_card c.args.card.now in
-    let why = c.in-Err-Refused.why in
-    let r = refused_reply h c.args.good c.args.bytes.now why (c.in-Err-Refused.ensures.refused why (rw c.in-Err-Refused.field-0-is refl) h) in
-    rw c.in-Err-Refused.field-0-is (stays h (command.Load c.args.good c.args.bytes.now) f f (answer.LoadRefused why) legal is r.1 r.0 refl)
+pub returns-in-Err-Refused : goal.returns-in-Err-Refused
+returns-in-Err-Refused c = record {
+  turns = λ h legal is.
+      let f = full_card c.args.card.now in
+      let why = c.in-Err-Refused.why in
+      let r = refused_reply h c.args.good c.args.bytes.now why (c.in-Err-Refused.ensures.refused why (rw c.in-Err-Refused.field-0-is refl) h) in
+      rw c.in-Err-Refused.field-0-is (stays h (command.Load c.args.good c.args.bytes.now) f (answer.LoadRefused why) legal is r.1 r.0);
+}

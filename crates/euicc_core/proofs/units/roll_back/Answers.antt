@@ -1,12 +1,14 @@
-use Rattle.std.proofs.Common.{◌∙◌, sym, refl}
+use Rattle.std.proofs.Common.{◌∙◌, sym}
 use Rattle.small_card.specs.declared.types.Answer.TheVariants as answer
 use Rattle.small_card.specs.declared.types.Command.TheVariants as command
 use Rattle.euicc_core.specs.FullCards.{full_card}
 use Rattle.euicc_core.proofs.OneStep.{former_is, stays, no_roll_reply}
 use Rattle.euicc_core.proofs.units.roll_back.Goals as goal
 
-pub returns-in-None-clause-steps : goal.returns-in-None-clause-steps
-returns-in-None-clause-steps c = λ h legal is.
-    let f = full_card c.args.card.now in
-    let r = no_roll_reply h (former_is h f is ∙ sym c.permitted.ensures.armed ∙ sym c.copied.ensures ∙ c.in-None.is) in
-    stays h command.Rollback f f answer.NotPermitted legal is r.1 r.0 refl
+pub returns-in-None : goal.returns-in-None
+returns-in-None c = record {
+  turns = λ h legal is.
+      let f = full_card c.args.card.now in
+      let r = no_roll_reply h (former_is h f is ∙ sym c.permitted.ensures.armed ∙ sym c.copied.ensures ∙ c.in-None.is) in
+      stays h command.Rollback f answer.NotPermitted legal is r.1 r.0;
+}

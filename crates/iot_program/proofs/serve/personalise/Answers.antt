@@ -1,6 +1,6 @@
 use Rattle.std.proofs.Common.{◌∙◌, ap, List}
 use Rattle.small_card.specs.declared.types.Profile.{Profile}
-use Rattle.euicc_core.specs.FullCards.{fresh}
+use Rattle.small_card.specs.Fresh.{fresh}
 use Rattle.iot_program.proofs.Replying.{begun, table_of}
 use Rattle.iot_program.proofs.serve.personalise.Goals as goal
 

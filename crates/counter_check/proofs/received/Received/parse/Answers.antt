@@ -2,8 +2,8 @@ use Rattle.std.proofs.Common.{◌≡◌, ◌∙◌, sym, arith}
 use Rattle.counter_check.proofs.Deciding.{too_long, unread, read, one_refusal}
 use Rattle.counter_check.proofs.received.Received.parse.Goals as goal
 
-pub returns-then-bytes-gt-MOST_OCTETS-clause-refused : goal.returns-then-bytes-gt-MOST_OCTETS-clause-refused
-returns-then-bytes-gt-MOST_OCTETS-clause-refused c = λ why is h.
+pub returns-then-bytes-gt-MOST_PACKAGE_OCTETS-clause-refused : goal.returns-then-bytes-gt-MOST_PACKAGE_OCTETS-clause-refused
+returns-then-bytes-gt-MOST_PACKAGE_OCTETS-clause-refused c = λ why is h.
     let same : c.refused.result ≡ why = cc in
     one_refusal _ _ why (too_long h c.args.good c.args.bytes.now (omega arith)) (sym c.refused.ensures ∙ same)
 
