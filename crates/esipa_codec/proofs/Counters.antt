@@ -1,12 +1,12 @@
 -- Orders of one association have rising counters, whatever the eIM is bound to.
-use Rattle.std.proofs.Common.{◌≡◌, ℕ, ◌≤◌, ◌<◌, ◌+◌, false, List, [], ◌∷◌, ◌++◌, refl, ◌∙◌, ap, sym, arith, Option, None, Some, true, Bool}
-use Rattle.std.specs.Prelude.{◌==◌, nat_lt, if◌then◌else◌, max, map, filter, not, IfSome}
-use Rattle.std.proofs.lemmas.Bool.{cond_both, cond-true, eqb-true, eq-eqb, ltb-true, ltb-false, true≢false}
+use Rattle.std.proofs.Common.{◌≡◌, ℕ, ◌≤◌, ◌<◌, ◌+◌, false, List, [], ◌∷◌, ◌++◌, refl, ◌∙◌, sym, arith, Option, None, Some, true, Bool}
+use Rattle.std.specs.Prelude.{◌==◌, nat_lt, map, filter, IfSome}
+use Rattle.std.proofs.lemmas.Bool.{cond_both, eq-eqb, ltb-false, true≢false}
 use Rattle.small_card.specs.Lists.{same, greatest, Every, EveryPair}
 use Rattle.small_card.specs.declared.types.Body.{Body}
-use Rattle.small_card.proofs.ListLemmas.{every_mono, every_all, every_push, pair_push}
+use Rattle.small_card.proofs.ListLemmas.{every_mono, every_push, pair_push}
 use Rattle.small_card.specs.Ranges.{greatest_counter}
-use Rattle.esipa_codec.specs.Eims.{EimState, Order, new_eim, counters_of, bound_to, ordered_by, ordered, waits, skip_first, skipped, heard}
+use Rattle.esipa_codec.specs.Eims.{EimState, Order, counters_of, bound_to, ordered_by, ordered, waits, skip_first, skipped, heard}
 use Rattle.esipa_codec.specs.Events.{EimEvent, bind, order, skip, message, after_event, after_events}
 use Rattle.esipa_codec.specs.declared.ends.Binding.{Binding}
 use Rattle.esipa_codec.specs.declared.messages.ToEim.{ToEim}

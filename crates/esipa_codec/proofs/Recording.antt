@@ -1,6 +1,6 @@
 -- One more result received: the record of an association and counter never falls.
 use Rattle.std.proofs.Common.{◌≡◌, ℕ, ◌≤◌, ◌+◌, ◌++◌, true, false, ◌&&◌, List, [], ◌∷◌, refl, ◌∙◌, ap, arith, Option, None, Some}
-use Rattle.std.specs.Prelude.{◌==◌, nat_lt, if◌then◌else◌}
+use Rattle.std.specs.Prelude.{◌==◌, nat_lt}
 use Rattle.std.proofs.lemmas.Bool.{cond_both, cond-true, eq-eqb, ltb-true}
 use Rattle.small_card.specs.Lists.{same, greatest}
 use Rattle.small_card.specs.declared.types.Body.{Body}

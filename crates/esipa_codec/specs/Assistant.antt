@@ -1,6 +1,6 @@
 -- The assistant: what happened to it since it was made, the newest first. Whom it asked for a
 -- package and how many probes failed are looked back for.
-use Rattle.std.specs.Prelude.{ℕ, ◌%◌, List, [], ◌∷◌, map, filter, length, not, ◌==◌, Bool, true, false, if◌then◌else◌, Option, Some, None}
+use Rattle.std.specs.Prelude.{ℕ, ◌%◌, List, [], ◌∷◌, map, filter, length, ◌==◌, Bool, true, false, if◌then◌else◌, Option, Some, None}
 use Rattle.small_card.specs.Lists.{before_first}
 use Rattle.small_card.specs.declared.types.Answer.{Answer}
 use Rattle.small_card.specs.declared.types.Answer.TheVariants as answer

@@ -1,5 +1,5 @@
 -- Values of the worked examples.
-use Rattle.std.specs.Prelude.{ℕ, Bool, true, false, List, [], ◌∷◌}
+use Rattle.std.specs.Prelude.{ℕ, Bool, List, [], ◌∷◌}
 use Rattle.small_card.specs.Examples.{e1, card_eid}
 use Rattle.small_card.specs.declared.types.Body.{Body}
 use Rattle.small_card.specs.declared.types.Body.TheVariants.{Psmos}
@@ -7,7 +7,7 @@ use Rattle.small_card.specs.declared.types.Psmo.TheVariants as psmo
 use Rattle.small_card.specs.declared.types.PackageResult.{PackageResult}
 use Rattle.esipa_codec.specs.declared.messages.ToEim.TheVariants as to_eim
 use Rattle.esipa_codec.specs.Eims.{EimState}
-use Rattle.esipa_codec.specs.Events.{EimEvent, bind, order, skip, message, after_events}
+use Rattle.esipa_codec.specs.Events.{EimEvent, message, after_events}
 
 abbrev pub listing : Body
 listing = Psmos (psmo.List ∷ [])
