@@ -1,14 +1,15 @@
 //! What holds of all homes, as functions that do nothing: the clauses are the laws.
 
-ghost use Rattle.std.specs.Prelude.{◌≡◌, ◌≤◌, ◌<◌, ℕ, List, Option, Some, None, length, take, slice_get, slice_set};
+ghost use Rattle.std.specs.Prelude.{◌≡◌, ◌≤◌, ◌<◌, ◌∷◌, ◌++◌, [], ℕ, Bool, List, Option, Some, None, length, take, slice_get, slice_set, filter};
 ghost use Rattle.sgp_fields.specs.Laws.{AreOctets};
 ghost use Rattle.small_card.specs.Cards.{FullCard};
-ghost use Rattle.small_card.specs.Lists.{without};
+ghost use Rattle.small_card.specs.Lists.{Every, EveryPair, without};
+ghost use Rattle.small_card.specs.Ranges.{IsBefore};
 ghost use Rattle.small_card.specs.Units.{has_seq};
 ghost use Rattle.small_card.specs.Valid.{IsValid};
 ghost use Rattle.small_card.specs.declared.types.PackageResult.{PackageResult};
 ghost use Rattle.home_codec.specs.Layout.{slot_front};
-ghost use Rattle.home_codec.specs.Ordering.{somes, insert, in_order};
+ghost use Rattle.home_codec.specs.Ordering.{somes, insert, in_order_on, in_order};
 ghost use Rattle.home_codec.specs.Homes.{IsHomeOf, fields, home_of};
 ghost use Rattle.home_codec.specs.Laying.{laid, slot_begin, HasPlaces, HasPending, IsOther};
 ghost use Rattle.home_codec.specs.Reading.{card_at};
@@ -46,14 +47,19 @@ pub fn parts_are_laid()
         → in_order (somes places) ≡ f.card.results.pending → IsHomeOf f home }
 {}
 
-/// A result that takes a free slot comes to the others in the order of its number, and one whose
-/// slot is made free leaves them in theirs.
+/// A result that takes a free slot comes to the others in the order of its number, last where its
+/// number is the highest, and one whose slot is made free leaves them in theirs. Which of the results
+/// come first makes no difference.
 pub fn places_change()
     ensures seated { (places : List (Option PackageResult)) (slot : ℕ) (r : PackageResult)
         → slice_get places slot ≡ Some None → IsOther r (somes places)
         → in_order (somes (slice_set places slot (Some r))) ≡ insert r (in_order (somes places)) }
+    ensures last { (rs : List PackageResult) (r : PackageResult)
+        → Every (λ s. IsBefore s r) rs → insert r rs ≡ rs ++ r ∷ [] }
     ensures freed { (places : List (Option PackageResult)) (slot : ℕ) (r : PackageResult)
         → slice_get places slot ≡ Some (Some r) → IsOther r (somes (slice_set places slot None))
         → in_order (somes (slice_set places slot None))
         ≡ without (has_seq r.seq) (in_order (somes places)) }
+    ensures parted { (test : PackageResult → Bool) (rs : List PackageResult) → EveryPair IsBefore rs
+        → in_order_on (filter test rs) (without test rs) ≡ rs }
 {}

@@ -1,6 +1,7 @@
 use super::*;
 use iot_bytes::{ReadError, Row};
 use std::alloc::Global;
+use std::process::Abort;
 use std::test::Fail;
 
 const EID: [u8; 16] = [0, 1, 2, 3, 4, 5, 6, 7, 8, 9, 10, 11, 12, 13, 14, 15];
@@ -112,13 +113,10 @@ fn homes_of_cards(rt: HostRuntime) -> Result<(), Fail> {
     Ok(())
 }
 
-#[test]
-fn homes_of_no_card(rt: HostRuntime) -> Result<(), Fail> {
-    let alloc = rt.alloc();
-    let full = full_home(alloc, [&SECOND, &MARKED, &[]])?;
-    let home = full.as_slice();
-    let cases: [(usize, &[u8]); 46] = [
-        // the head
+type Faults<const N: usize> = [(usize, &'static [u8]); N];
+
+fn faulty_heads() -> Faults<16> {
+    [
         (0, &[2]),
         (17, &[1]),
         (17, &[17]),
@@ -135,52 +133,85 @@ fn homes_of_no_card(rt: HostRuntime) -> Result<(), Fail> {
         (38, &[0, 0, 0, 3]),
         (42, &[1]),
         (255, &[1]),
-        // profiles
-        (PROFILE + 10, &[2]),
-        (PROFILE + 128 + 10, &[1]),
-        (PROFILE + 128, &A),
-        (PROFILE + 11, &[65]),
-        (PROFILE + 11, &[1]),
-        (PROFILE + 12, &[255]),
-        (PROFILE + 127, &[1]),
-        (PROFILE + 256, &[1]),
-        // eIMs
-        (EIM, &[0, 0, 0]),
-        (EIM, &[129]),
-        (EIM + 1, b" "),
-        (EIM + 3, b"x"),
-        (EIM + 129, &[129]),
-        (EIM + 130, b"#"),
-        (EIM + 258, &[129]),
-        (EIM + 387, &[128]),
-        (EIM + 395, &[0, 0, 0, 0]),
-        (EIM + 395, &[0, 0, 0, 2]),
-        (EIM + 512 + 1, b"e1"),
-        (EIM + 511, &[1]),
-        (EIM + 1024, &[1]),
-        // results
-        (RESULT, &[0, 0, 0, 21]),
-        (RESULT, &[0, 0, 0, 23]),
-        (RESULT, &[0, 0, 80, 252]),
-        (RESULT, &[255, 255, 255, 255]),
-        (RESULT + 4, &[0x31]),
-        (RESULT + 8, &[0]),
-        (RESULT + 8, &[3]),
-        (RESULT + 8, &[4]),
-        (RESULT, &[0, 0, 0, 0]),
-    ];
-    for (at, octets) in cases {
+    ]
+}
+
+fn faulty_profiles() -> Faults<8> {
+    [
+        (256 + 10, &[2]),
+        (256 + 11, &[65]),
+        (256 + 11, &[1]),
+        (256 + 12, &[255]),
+        (256 + 127, &[1]),
+        (384, &A),
+        (384 + 10, &[1]),
+        (512, &[1]),
+    ]
+}
+
+fn faulty_eims() -> Faults<13> {
+    [
+        (2304, &[0, 0, 0]),
+        (2304, &[129]),
+        (2304 + 1, b" "),
+        (2304 + 3, b"x"),
+        (2304 + 129, &[129]),
+        (2304 + 130, b"#"),
+        (2304 + 258, &[129]),
+        (2304 + 387, &[128]),
+        (2304 + 395, &[0, 0, 0, 0]),
+        (2304 + 395, &[0, 0, 0, 2]),
+        (2304 + 511, &[1]),
+        (2816 + 1, b"e1"),
+        (3328, &[1]),
+    ]
+}
+
+fn faulty_results() -> Faults<9> {
+    [
+        (6400, &[0, 0, 0, 0]),
+        (6400, &[0, 0, 0, 21]),
+        (6400, &[0, 0, 0, 23]),
+        (6400, &[0, 0, 80, 252]),
+        (6400, &[255, 255, 255, 255]),
+        (6400 + 4, &[0x31]),
+        (6400 + 8, &[0]),
+        (6400 + 8, &[3]),
+        (6400 + 8, &[4]),
+    ]
+}
+
+// Each of these octets at its place leaves a home of no card.
+fn all_refused(
+    rt: &impl Abort,
+    alloc: Global,
+    home: &[u8],
+    faults: &[(usize, &[u8])],
+) -> Result<(), Fail> {
+    for (at, octets) in faults {
         let end = at.saturating_add(octets.len());
-        if end <= home.len() {
-            let mut broken = Row::new(alloc);
-            broken.append(&home[..at])?;
-            broken.append(octets)?;
-            broken.append(&home[end..])?;
-            assert!(rt;
-                written(alloc, broken.as_slice())?.is_none(),
-                "{octets:?} at {at}"
-            );
+        if end > home.len() {
+            return Err("behind the home".into());
         }
+        let mut broken = Row::new(alloc);
+        broken.append(&home[..*at])?;
+        broken.append(octets)?;
+        broken.append(&home[end..])?;
+        assert!(rt;
+            written(alloc, broken.as_slice())?.is_none(),
+            "{octets:?} at {at}"
+        );
     }
     Ok(())
+}
+
+#[test]
+fn homes_of_no_card(rt: HostRuntime) -> Result<(), Fail> {
+    let alloc = rt.alloc();
+    let full = full_home(alloc, [&SECOND, &MARKED, &[]])?;
+    let home = full.as_slice();
+    all_refused(&rt, alloc, home, &faulty_heads())?;
+    all_refused(&rt, alloc, home, &faulty_profiles())?;
+    all_refused(&rt, alloc, home, &faulty_eims())?;
+    all_refused(&rt, alloc, home, &faulty_results())
 }
