@@ -2,3 +2,11 @@ pub mod Splitting
 pub mod Deciding
 pub mod Parting
 pub mod Listing
+pub mod Appending
+pub mod Lacking
+pub mod Rereading
+pub mod Reordering
+pub mod Relining
+pub mod Makes
+pub mod Fitting
+pub mod FittingLines

@@ -5,3 +5,4 @@ pub mod Devices
 pub mod Steps
 pub mod Spelling
 pub mod Ranges
+pub mod Making

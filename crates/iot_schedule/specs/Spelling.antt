@@ -16,7 +16,7 @@ use Rattle.iot_schedule.specs.declared.types.Pick.{Pick}
 use Rattle.iot_schedule.specs.declared.types.Pick.TheVariants.{At, Last}
 use Rattle.iot_schedule.specs.declared.types.Line.{Line}
 use Rattle.iot_schedule.specs.declared.types.Line.TheVariants as line
-use Rattle.iot_schedule.specs.Words.{joined}
+use Rattle.iot_schedule.specs.Words.{spaced, joined}
 
 abbrev pub address_text : List ℕ → List ℕ
 address_text address = codes "@" ++ address
@@ -28,7 +28,11 @@ abbrev pub sign_text : Bool → List ℕ
 sign_text enabled = if enabled then codes "+" else codes "-"
 
 unfoldable pub profile_text : Profile → List ℕ
-profile_text p = sign_text p.enabled ++ hex p.iccid ++ codes "%" ++ hex p.nickname
+profile_text p = sign_text p.enabled ++ (hex p.iccid ++ (codes "%" ++ hex p.nickname))
+
+-- a profile behind a space
+unfoldable pub profile_entry : Profile → List ℕ
+profile_entry p = spaced (profile_text p)
 
 abbrev pub pick_text : Pick → List ℕ
 pick_text (At n) = decimal n
@@ -53,16 +57,23 @@ psmo_text (psmo_op.Disable iccid) = codes "disable:" ++ hex iccid
 psmo_text (psmo_op.Delete iccid) = codes "delete:" ++ hex iccid
 psmo_text psmo_op.List = codes "list"
 
+unfoldable pub psmo_entry : Psmo → List ℕ
+psmo_entry op = spaced (psmo_text op)
+
 abbrev pub optional_text : (List ℕ → List ℕ) → Option (List ℕ) → List ℕ
 optional_text text None = []
 optional_text text (Some x) = text x
 
 unfoldable pub eco_text : Eco → List ℕ
-eco_text (eco_op.Add id address key) = codes "add:" ++ id ++ address_text address ++ key_text key
-eco_text (eco_op.Update id address key) = codes "update:" ++ id ++ optional_text address_text address ++ optional_text key_text key
+eco_text (eco_op.Add id address key) = codes "add:" ++ (id ++ (address_text address ++ key_text key))
+eco_text (eco_op.Update id address key) = codes "update:" ++ (id ++ (optional_text address_text address ++ optional_text key_text key))
 eco_text (eco_op.Delete id) = codes "drop:" ++ id
 eco_text eco_op.List = codes "eims"
 
+unfoldable pub eco_entry : Eco → List ℕ
+eco_entry op = spaced (eco_text op)
+
+-- the words of a package's operations
 unfoldable pub body_words : Body → List (List ℕ)
 body_words (Psmos ops) = map psmo_text ops
 body_words (Ecos ops) = map eco_text ops

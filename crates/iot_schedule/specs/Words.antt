@@ -1,6 +1,6 @@
 -- The words of a line, which single spaces part, and reading them from the left.
-use Rattle.std.specs.Prelude.{◌≡◌, ℕ, zero, suc, List, [], ◌∷◌, Option, Some, None, Result, Ok, Err}
-use Rattle.std.specs.List.{slice_split, join_with_byte}
+use Rattle.std.specs.Prelude.{◌≡◌, ℕ, zero, suc, List, [], ◌∷◌, ◌++◌, codes, Option, Some, None, Result, Ok, Err}
+use Rattle.std.specs.List.{slice_split, flat_map}
 use Rattle.iot_bytes.specs.Tokens.{is_space}
 use Rattle.iot_bytes.specs.declared.memory.ReadError.{ReadError}
 use Rattle.iot_bytes.specs.declared.memory.ReadError.TheVariants.{Malformed, NoMemory}
@@ -10,9 +10,14 @@ use Rattle.sgp_der.specs.Fields.{◌>>=◌}
 unfoldable pub words : List ℕ → List (List ℕ)
 words text = slice_split is_space text
 
+-- a word behind a space
+unfoldable pub spaced : List ℕ → List ℕ
+spaced word = codes " " ++ word
+
 -- the text of these words, with one space between each two
 abbrev pub joined : List (List ℕ) → List ℕ
-joined ws = join_with_byte 32 ws
+joined [] = []
+joined (w ∷ ws) = w ++ flat_map spaced ws
 
 -- the words behind a space, and none where the text has ended
 abbrev pub words_behind : List ℕ → List (List ℕ)

@@ -6,12 +6,20 @@
 #![tactic(auto)]
 
 mod devices;
+mod laws;
+mod line_writing;
+mod maker;
+mod operation_writing;
 mod operations;
 mod steps;
+mod token_writing;
 mod tokens;
 mod types;
 mod words;
 
 pub use devices::read_device;
+pub use laws::{devices_are_read_again, steps_are_read_again};
+pub use line_writing::{write_device, write_step};
+pub use maker::Maker;
 pub use steps::read_step;
 pub use types::{Device, Line, Pick};

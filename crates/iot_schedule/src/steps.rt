@@ -1,6 +1,7 @@
 //! The lines behind the first one: a keyword, and the words that it takes.
 
-ghost use Rattle.std.specs.Prelude.{◌≡◌};
+ghost use Rattle.std.specs.Prelude.{◌≡◌, IfOk};
+ghost use Rattle.iot_schedule.specs.Ranges.{IsStep};
 ghost use Rattle.sgp_der.specs.Fields.{Gives};
 ghost use Rattle.iot_schedule.specs.declared.types.Line.{Line};
 ghost use Rattle.iot_schedule.specs.Steps.{eim_line, initial_line, bind_line, order_line, skip_line, kept_line, poll_line, up_line, verdict_of, down_line, load_line, probe_line, cut_line, detach_line, bare_line, device_step, assistant_step, network_step, manager_step, step_line, step_at};
@@ -233,14 +234,22 @@ fn manager_step(alloc: Global, name: &[u8], words: &mut Words) -> Result<Line, R
     }
 }
 
+#[tactic(auto, unfolding(crate::specs::Steps::step_line, crate::specs::Steps::step_at))]
+fn step(alloc: Global, text: &[u8]) -> Result<Line, ReadError>
+    ensures { Gives result (step_at text.now) }
+{
+    let (name, mut words) = keyword(text);
+    manager_step(alloc, name, &mut words)
+}
+
 /// The line behind the first one that a text, without its end, spells.
 ///
 /// # Errors
 /// `Malformed` exactly where the text spells no line.
-#[tactic(auto, unfolding(crate::specs::Steps::step_line, crate::specs::Steps::step_at))]
+#[tactic(auto, using(crate::proofs::FittingLines::step_given))]
 pub fn read_step(alloc: Global, text: &[u8]) -> Result<Line, ReadError>
     ensures exact { Gives result (step_at text.now) }
+    ensures range { IfOk result (λ line. IsStep line) }
 {
-    let (name, mut words) = keyword(text);
-    manager_step(alloc, name, &mut words)
+    step(alloc, text)
 }
