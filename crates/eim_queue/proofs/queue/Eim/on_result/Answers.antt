@@ -1,0 +1,30 @@
+use Rattle.std.proofs.Common.{◌∙◌, ap, sym, subst, List}
+use Rattle.small_card.specs.Lists.{same, Every}
+use Rattle.small_card.specs.Ranges.{IsSigned}
+use Rattle.eim_queue.specs.declared.orders.Order.{Order}
+use Rattle.eim_queue.specs.Queues.{Queue, IsEim, queue_of}
+use Rattle.eim_queue.proofs.Standing.{other_result, other_heard, own_result, own_heard, settled_fit}
+use Rattle.eim_queue.proofs.queue.Eim.on_result.Goals as goal
+
+pub returns-then-not-is_same_eim-clause-end : goal.returns-then-not-is_same_eim-clause-end
+returns-then-not-is_same_eim-clause-end c = λ e h.
+    other_result c.args.item (queue_of c.self.inside) e (subst (λ (q : Queue). IsEim q e) (sym c.self.view_is) h) (sym c.is_same_eim.ensures ∙ c.if-not-is_same_eim.true)
+
+pub returns-then-not-is_same_eim-clause-stands : goal.returns-then-not-is_same_eim-clause-stands
+returns-then-not-is_same_eim-clause-stands c = λ e h.
+    other_heard c.args.item c.args.self.now e h (ap (λ (q : Queue). same c.args.item.eim q.id) (sym c.self.view_is) ∙ sym c.is_same_eim.ensures ∙ c.if-not-is_same_eim.true)
+
+pub returns-in-Ok-clause-end : goal.returns-in-Ok-clause-end
+returns-in-Ok-clause-end c = λ e h.
+    own_result c.args.item (queue_of c.self.inside) e (subst (λ (q : Queue). IsEim q e) (sym c.self.view_is) h) (sym c.is_same_eim.ensures ∙ c.if-not-is_same_eim.false)
+
+pub returns-in-Ok-clause-stands : goal.returns-in-Ok-clause-stands
+returns-in-Ok-clause-stands c = λ e h.
+    let k = subst (λ (q : Queue). IsEim q e) (sym c.self.view_is) h in
+    own_heard c.args.item (queue_of c.self.inside) e _ _ k (sym c.is_same_eim.ensures ∙ c.if-not-is_same_eim.false) (c.in-Ok.ensures.ok e.received k.records_are) c.settle.ensures
+
+pub invariant_of-self : goal.invariant_of-self
+invariant_of-self c = record {
+  orders_fit = subst (λ (os : List Order). Every (λ o. IsSigned o.signed) os) (sym c.settle.ensures) (settled_fit c.args.item.association c.args.item.counter c.self.inside.orders.items c.self.invariant.orders_fit);
+  bound_fits = c.self.invariant.bound_fits;
+}

@@ -1,0 +1,231 @@
+ghost use Rattle.std.specs.Prelude.{◌≡◌, ◌≤◌, ◌-◌, Some, false};
+ghost use Rattle.small_card.specs.Lists.{same};
+ghost use Rattle.small_card.specs.Ranges.{IsBody, IsNumber, IsSigned, greatest_counter};
+ghost use Rattle.esipa_codec.specs.Eims.{EimState, bind_end, bound_to, heard, last_of, message_end, new_eim, order_end, ordered, package_of, skip_end, skipped};
+ghost use Rattle.esipa_codec.specs.Records.{records_of};
+ghost use Rattle.esipa_codec.specs.declared.messages.ToEim.TheVariants as to_eim;
+ghost use Rattle.esipa_codec.specs.declared.messages.ToIpa.TheVariants as to_ipa;
+ghost use Rattle.package_codec.specs.Spelling.{signed};
+ghost use Rattle.eim_queue.specs.Queues.{IfOrdered, IfServed, IsEim};
+
+use crate::orders::{Order, first_waiting, give_up, greatest_used, push_order, settle};
+use crate::records::{is_known, receive};
+use esipa_codec::{BindEnd, Binding, MessageEnd, OrderEnd, ToEim, ToIpa};
+use iot_bytes::{NoMemory, Row};
+use package_codec::write_signed;
+use sgp_values::{Eid, EimId};
+use small_card::limits::GREATEST_COUNTER;
+use small_card::{Body, Package, PackageResult, Refused, Signed};
+use std::alloc::Global;
+use std::marker::Model;
+
+/// A manager's queue for the card with one EID: its orders, oldest first, and its records.
+#[derive(Debug, Drop)]
+pub struct Eim {
+    id: EimId,
+    eid: Eid,
+    bound: Option<Binding>,
+    orders: Vec<Order>,
+    records: Row<PackageResult>,
+    refusal: Option<Refused>,
+}
+
+impl Model for Eim {
+    ghost use Rattle.eim_queue.specs.Queues.{Queue, queue_of, IsQueue};
+
+    ghost Value = { Queue };
+
+    ghost view = { queue_of };
+
+    ghost invariant = { IsQueue };
+}
+
+impl Eim {
+    /// A queue that isn't bound, without orders and records. It takes no memory.
+    pub fn new(alloc: Global, id: EimId, eid: Eid) -> Eim
+        ensures { IsEim result (new_eim id eid) }
+    {
+        Eim {
+            id,
+            eid,
+            bound: None,
+            orders: Vec::new(alloc),
+            records: Row::new(alloc),
+            refusal: None,
+        }
+    }
+
+    /// Later orders use this association, and counters go on behind `last`. Where an order of that
+    /// association has a greater counter nothing changes. It takes no memory.
+    pub fn bind(&mut self, association: u32, last: u64) -> BindEnd
+        requires association { IsNumber association }
+        requires last { last ≤ greatest_counter }
+        ensures end { (e : EimState) → IsEim self.old e → result ≡ bind_end association last e }
+        ensures stands { (e : EimState) → IsEim self.old e → IsEim self.new (bound_to association last e) }
+    {
+        let used = greatest_used(&self.orders, association);
+        if last < used {
+            return BindEnd::Low(used);
+        }
+        self.bound = Some(Binding { association, last });
+        BindEnd::Bound
+    }
+
+    /// Orders these operations under the next counter of the association that the queue is bound to.
+    /// Where memory is wanting nothing changes.
+    pub fn order(&mut self, alloc: Global, body: Body) -> OrderEnd
+        requires { IsBody body }
+        ensures end { (e : EimState) → IsEim self.old e → IfOrdered result (result ≡ order_end e) }
+        ensures stands { (e : EimState) → IsEim self.old e → IfOrdered result (IsEim self.new (ordered body e)) }
+        ensures no_memory { result ≡ OrderEnd.NoMemory → self.new ≡ self.old }
+    {
+        match self.bound {
+            None => OrderEnd::Unbound,
+            Some(bound) => {
+                if bound.last == GREATEST_COUNTER {
+                    return OrderEnd::CounterSpent;
+                }
+                self.order_next(alloc, bound, body)
+            }
+        }
+    }
+
+    /// The next order of the association that the queue is bound to.
+    fn order_next(&mut self, alloc: Global, bound: Binding, body: Body) -> OrderEnd
+        requires bound { self.old.bound ≡ Some bound }
+        requires left { bound.last ≤ greatest_counter - 1 }
+        requires body { IsBody body }
+        ensures end { (e : EimState) → IsEim self.old e → IfOrdered result (result ≡ order_end e) }
+        ensures stands { (e : EimState) → IsEim self.old e → IfOrdered result (IsEim self.new (ordered body e)) }
+        ensures no_memory { result ≡ OrderEnd.NoMemory → self.new ≡ self.old }
+    {
+        let counter = bound.last + 1;
+        let order = Order {
+            signed: self.package(alloc, bound.association, counter, body),
+            waits: !is_known(self.records.as_slice(), bound.association, counter),
+        };
+        match push_order(&mut self.orders, order) {
+            Ok(()) => {
+                self.bound = Some(Binding {
+                    last: counter,
+                    ..bound
+                });
+                OrderEnd::Ordered(counter)
+            }
+            Err(NoMemory) => OrderEnd::NoMemory,
+        }
+    }
+
+    /// The package of an order, with an empty signature.
+    fn package(&self, alloc: Global, association: u32, counter: u64, body: Body) -> Signed
+        ensures { result ≡ package_of self.now.id self.now.eid (record { association = association; counter = counter; body = body; skipped = false }) }
+    {
+        Signed {
+            package: Package {
+                eim: self.id,
+                eid: self.eid,
+                association,
+                counter,
+                body,
+            },
+            signature: Row::new(alloc),
+        }
+    }
+
+    /// Gives up the first order that waits, and gives its counter. It takes no memory.
+    pub fn skip(&mut self) -> Option<u64>
+        ensures end { (e : EimState) → IsEim self.old e → result ≡ skip_end e }
+        ensures stands { (e : EimState) → IsEim self.old e → IsEim self.new (skipped e) }
+    {
+        match first_waiting(&self.orders) {
+            Some(at) => Some(give_up(&mut self.orders[at])),
+            None => None,
+        }
+    }
+
+    /// Hears a message from the assistant. Where memory is wanting nothing changes.
+    pub fn on_message(&mut self, alloc: Global, message: ToEim) -> MessageEnd
+        ensures end { (e : EimState) → IsEim self.old e → IfServed result (result ≡ message_end message e) }
+        ensures stands { (e : EimState) → IsEim self.old e → IfServed result (IsEim self.new (heard message e)) }
+        ensures no_memory { result ≡ MessageEnd.NoMemory → self.new ≡ self.old }
+    {
+        match message {
+            ToEim::Poll { eid } => self.on_poll(alloc, &eid),
+            ToEim::Result(item) => self.on_result(item),
+            ToEim::Refused(refused) => {
+                self.refusal = Some(refused);
+                MessageEnd::Silent
+            }
+        }
+    }
+
+    /// A poll for this card fetches the package of the first order that waits.
+    fn on_poll(&self, alloc: Global, eid: &Eid) -> MessageEnd
+        ensures { (e : EimState) → IsEim self.now e → IfServed result (result ≡ message_end (to_eim.Poll eid.now) e) }
+    {
+        if !is_same_card(eid, &self.eid) {
+            return MessageEnd::Reply(ToIpa::Nothing);
+        }
+        match first_waiting(&self.orders) {
+            Some(at) => spelled(alloc, &self.orders[at].signed),
+            None => MessageEnd::Reply(ToIpa::Nothing),
+        }
+    }
+
+    /// A result of this eIM is recorded and acknowledged by its own number; another is not heard.
+    fn on_result(&mut self, item: PackageResult) -> MessageEnd
+        ensures end { (e : EimState) → IsEim self.old e → IfServed result (result ≡ message_end (to_eim.Result item) e) }
+        ensures stands { (e : EimState) → IsEim self.old e → IfServed result (IsEim self.new (heard (to_eim.Result item) e)) }
+        ensures no_memory { result ≡ MessageEnd.NoMemory → self.new ≡ self.old }
+    {
+        if !is_same_eim(&item.eim, &self.id) {
+            return MessageEnd::Silent;
+        }
+        let (seq, association, counter) = (item.seq, item.association, item.counter);
+        match receive(&mut self.records, item) {
+            Ok(()) => {
+                settle(&mut self.orders, association, counter);
+                MessageEnd::Reply(ToIpa::Ack { seq })
+            }
+            Err(NoMemory) => MessageEnd::NoMemory,
+        }
+    }
+
+    /// The records, in the order of first receiving. It takes no memory.
+    pub fn records(&self) -> &[PackageResult]
+        ensures { (e : EimState) → IsEim self.now e → result.now ≡ records_of e.received }
+    {
+        self.records.as_slice()
+    }
+
+    /// The last refusal that was received. It takes no memory.
+    pub fn last_refusal(&self) -> Option<Refused>
+        ensures { (e : EimState) → IsEim self.now e → result ≡ last_of e.refusals }
+    {
+        self.refusal
+    }
+}
+
+fn is_same_eim(one: &EimId, other: &EimId) -> bool
+    ensures { result ≡ same one.now other.now }
+{
+    one == other
+}
+
+fn is_same_card(one: &Eid, other: &Eid) -> bool
+    ensures { result ≡ same one.now other.now }
+{
+    one == other
+}
+
+/// The octets of a package.
+fn spelled(alloc: Global, package: &Signed) -> MessageEnd
+    requires { IsSigned «package».now }
+    ensures { IfServed result (result ≡ MessageEnd.Reply (to_ipa.Package (signed «package».now))) }
+{
+    let mut bytes = Row::new(alloc);
+    match write_signed(package, &mut bytes) {
+        Ok(()) => MessageEnd::Reply(ToIpa::Package(bytes)),
+        Err(NoMemory) => MessageEnd::NoMemory,
+    }
+}
