@@ -35,8 +35,12 @@ no_records = record { order = refl; each = tt }
 pub new_stands : (id eid : List ℕ) (os : List Order) (rs : List PackageResult) → os ≡ [] → rs ≡ []
     → IsEim (record { id = id; eid = eid; bound = None; orders = os; records = rs; refusal = None }) (new_eim id eid)
 new_stands id eid os rs o r = record {
-  id_is = refl; eid_is = refl; bound_is = refl; orders_are = o;
-  records_are = subst (λ (xs : List PackageResult). AreRecords xs []) (sym r) no_records; refusal_is = refl;
+  id_is = refl;
+  eid_is = refl;
+  bound_is = refl;
+  orders_are = o;
+  records_are = subst (λ (xs : List PackageResult). AreRecords xs []) (sym r) no_records;
+  refusal_is = refl;
 }
 
 -- the counters of the orders as the queue keeps them
@@ -63,21 +67,21 @@ unfolding bind_end
 low_end q e association last used h u l =
     let n : used ≡ greatest (counters_of association e.orders) = u ∙ used_is q e association h in
     ap (λ c. bound.Low c) n ∙ sym (cond-true (nat_lt last (greatest (counters_of association e.orders))) (bound.Low (greatest (counters_of association e.orders))) bound.Bound
-        (lt-ltb last (greatest (counters_of association e.orders)) (omega (arith, n, l))))
+    (lt-ltb last (greatest (counters_of association e.orders)) (omega (arith, n, l))))
 
 pub low_stands : (q : Queue) (e : EimState) (association last used : ℕ) → IsEim q e → used ≡ greatest (used_counters association q.orders) → last < used → IsEim q (bound_to association last e)
 unfolding bound_to
 low_stands q e association last used h u l =
     let n : used ≡ greatest (counters_of association e.orders) = u ∙ used_is q e association h in
     subst (IsEim q) (sym (cond-true (nat_lt last (greatest (counters_of association e.orders))) e (record e { bound = Some (record { association = association; last = last }) })
-        (lt-ltb last (greatest (counters_of association e.orders)) (omega (arith, n, l))))) h
+    (lt-ltb last (greatest (counters_of association e.orders)) (omega (arith, n, l))))) h
 
 pub bound_end : (q : Queue) (e : EimState) (association last used : ℕ) → IsEim q e → used ≡ greatest (used_counters association q.orders) → used ≤ last → bound.Bound ≡ bind_end association last e
 unfolding bind_end
 bound_end q e association last used h u l =
     let n : used ≡ greatest (counters_of association e.orders) = u ∙ used_is q e association h in
     sym (cond-false (nat_lt last (greatest (counters_of association e.orders))) (bound.Low (greatest (counters_of association e.orders))) bound.Bound
-        (le-ltb last (greatest (counters_of association e.orders)) (omega (arith, n, l))))
+    (le-ltb last (greatest (counters_of association e.orders)) (omega (arith, n, l))))
 
 pub bound_stands : (q : Queue) (e : EimState) (association last used : ℕ) → IsEim q e → used ≡ greatest (used_counters association q.orders) → used ≤ last
     → IsEim (record q { bound = Some (record { association = association; last = last }) }) (bound_to association last e)
@@ -86,7 +90,7 @@ bound_stands q e association last used h u l =
     let n : used ≡ greatest (counters_of association e.orders) = u ∙ used_is q e association h in
     subst (IsEim (record q { bound = Some (record { association = association; last = last }) }))
     (sym (cond-false (nat_lt last (greatest (counters_of association e.orders))) e (record e { bound = Some (record { association = association; last = last }) })
-        (le-ltb last (greatest (counters_of association e.orders)) (omega (arith, n, l)))))
+    (le-ltb last (greatest (counters_of association e.orders)) (omega (arith, n, l)))))
     (record { id_is = h.id_is; eid_is = h.eid_is; bound_is = refl; orders_are = h.orders_are; records_are = h.records_are; refusal_is = h.refusal_is })
 
 -- an order before the first binding
@@ -127,9 +131,12 @@ kept_next id eid received b body = refl
 more_orders : (q : Queue) (e : EimState) (b : Binding) (body : Body) (o : Order) → IsEim q e → o ≡ kept_order e.id e.eid e.received (next_order b body)
     → IsEim (record q { bound = Some (record b { last = b.last + 1 }); orders = q.orders ++ o ∷ [] }) (with_order b body e)
 more_orders q e b body o h is = record {
-  id_is = h.id_is; eid_is = h.eid_is; bound_is = refl;
+  id_is = h.id_is;
+  eid_is = h.eid_is;
+  bound_is = refl;
   orders_are = ap (λ os. os ++ o ∷ []) h.orders_are ∙ ap (λ x. map (kept_order e.id e.eid e.received) e.orders ++ x ∷ []) is ∙ sym (map-append (kept_order e.id e.eid e.received) e.orders (next_order b body ∷ []));
-  records_are = h.records_are; refusal_is = h.refusal_is;
+  records_are = h.records_are;
+  refusal_is = h.refusal_is;
 }
 
 pub next_stands : (q : Queue) (e : EimState) (b : Binding) (body : Body) (known : Bool) → IsEim q e → q.bound ≡ Some b → b.last == greatest_counter ≡ false → known ≡ is_recorded b.association (b.last + 1) e.received
@@ -138,10 +145,10 @@ unfolding ordered
 next_stands q e b body known h k s is =
     let o : Order = record { signed = package_of q.id q.eid (next_order b body); waits = not known } in
     let its : o ≡ kept_order e.id e.eid e.received (next_order b body) =
-        ap (λ i. record { signed = package_of i q.eid (next_order b body); waits = not known }) h.id_is
-        ∙ ap (λ i. record { signed = package_of e.id i (next_order b body); waits = not known }) h.eid_is
-        ∙ ap (λ w. record { signed = package_of e.id e.eid (next_order b body); waits = not w }) is
-        ∙ sym (kept_next e.id e.eid e.received b body) in
+    ap (λ i. record { signed = package_of i q.eid (next_order b body); waits = not known }) h.id_is
+    ∙ ap (λ i. record { signed = package_of e.id i (next_order b body); waits = not known }) h.eid_is
+    ∙ ap (λ w. record { signed = package_of e.id e.eid (next_order b body); waits = not w }) is
+    ∙ sym (kept_next e.id e.eid e.received b body) in
     subst (λ p. IsEim (record q { bound = Some (record b { last = b.last + 1 }); orders = q.orders ++ o ∷ [] }) (ordered_by p body e)) (sym k ∙ h.bound_is)
     (subst (IsEim (record q { bound = Some (record b { last = b.last + 1 }); orders = q.orders ++ o ∷ [] })) (sym (cond-false (b.last == greatest_counter) e (with_order b body e) s))
     (more_orders q e b body o h its))
@@ -155,9 +162,10 @@ found_first test (o ∷ os) zero d l e off =
     (cond-true (test o) (Some o) (find test os) e, cond-true (test o) (record o { skipped = true } ∷ os) (o ∷ skip_first test os) e)
 found_first test (o ∷ os) (suc at) d l e off =
     let here : test o ≡ false = off 0 (omega arith) in
-    let rest = found_first test os at d (omega (arith, l)) e (λ k m. off (suc k) (omega (arith, m))) in
-    (cond-false (test o) (Some o) (find test os) here ∙ rest.0,
-     cond-false (test o) (record o { skipped = true } ∷ os) (o ∷ skip_first test os) here ∙ ap (λ xs. o ∷ xs) rest.1)
+    let rest = found_first test os at d (omega (arith, l)) e (λ k m. off (suc k) (omega (arith, m))) in (
+      cond-false (test o) (Some o) (find test os) here ∙ rest.0,
+      cond-false (test o) (record o { skipped = true } ∷ os) (o ∷ skip_first test os) here ∙ ap (λ xs. o ∷ xs) rest.1,
+    )
 
 none_first : (test : Ordered → Bool) (os : List Ordered) → Every (λ o. test o ≡ false) os → (find test os ≡ None) × (skip_first test os ≡ os)
 unfolding skip_first
@@ -193,8 +201,8 @@ found_order q e at k h p is =
     let inside : at < length e.orders = (let n = place.0 in let m = length-map e.orders f in omega (arith, n, m)) in
     let o : Ordered = get_or e.orders at some_order in
     let found = found_first test e.orders at some_order inside
-        (sym (ap (λ (x : Order). x.waits) (get_or-map f e.orders at some_order (f some_order) inside)) ∙ place.1)
-        (λ j l. sym (ap (λ (x : Order). x.waits) (get_or-map f e.orders j some_order (f some_order) (omega (arith, l, inside)))) ∙ place.2 j l) in
+    (sym (ap (λ (x : Order). x.waits) (get_or-map f e.orders at some_order (f some_order) inside)) ∙ place.1)
+    (λ j l. sym (ap (λ (x : Order). x.waits) (get_or-map f e.orders j some_order (f some_order) (omega (arith, l, inside)))) ∙ place.2 j l) in
     let its : k ≡ f o = is ∙ ap (λ os. get_or os at k) h.orders_are ∙ get_or-map f e.orders at some_order k inside in
     record {
       order = o;
@@ -214,7 +222,12 @@ skip_found q e at k f = ap (λ (x : Order). Some x.signed.«package».counter) f
 pub skip_stands : (q : Queue) (e : EimState) (at : ℕ) (k : Order) → IsEim q e → IsFound q e at k → IsEim (record q { orders = set q.orders at (record k { waits = false }) }) (skipped e)
 unfolding skipped
 skip_stands q e at k h f = record {
-  id_is = h.id_is; eid_is = h.eid_is; bound_is = h.bound_is; orders_are = f.given_up; records_are = h.records_are; refusal_is = h.refusal_is;
+  id_is = h.id_is;
+  eid_is = h.eid_is;
+  bound_is = h.bound_is;
+  orders_are = f.given_up;
+  records_are = h.records_are;
+  refusal_is = h.refusal_is;
 }
 
 none_waits : (q : Queue) (e : EimState) → IsEim q e → position (λ (o : Order). o.waits) q.orders ≡ None → Every (λ o. waits e.received o ≡ false) e.orders
@@ -233,9 +246,12 @@ skip_none q e h p = sym (ap counter_of (none_first_waits q e h p))
 pub skip_none_stands : (q : Queue) (e : EimState) → IsEim q e → position (λ (o : Order). o.waits) q.orders ≡ None → IsEim q (skipped e)
 unfolding skipped
 skip_none_stands q e h p = record {
-  id_is = h.id_is; eid_is = h.eid_is; bound_is = h.bound_is;
+  id_is = h.id_is;
+  eid_is = h.eid_is;
+  bound_is = h.bound_is;
   orders_are = h.orders_are ∙ ap (map (kept_order e.id e.eid e.received)) (sym (none_first (waits e.received) e.orders (none_waits q e h p)).1);
-  records_are = h.records_are; refusal_is = h.refusal_is;
+  records_are = h.records_are;
+  refusal_is = h.refusal_is;
 }
 
 -- a poll
@@ -295,9 +311,12 @@ unfolding heard
 own_heard r q e rows os h s rs o =
     subst (IsEim (record q { records = rows; orders = os })) (sym (cond-true (same r.eim e.id) (record e { received = r ∷ e.received }) e (ap (same r.eim) (sym h.id_is) ∙ s)))
     (record {
-      id_is = h.id_is; eid_is = h.eid_is; bound_is = h.bound_is;
+      id_is = h.id_is;
+      eid_is = h.eid_is;
+      bound_is = h.bound_is;
       orders_are = o ∙ ap (map (settled r.association r.counter)) h.orders_are ∙ settled_all e.id e.eid e.received r e.orders;
-      records_are = rs; refusal_is = h.refusal_is;
+      records_are = rs;
+      refusal_is = h.refusal_is;
     })
 
 pub refusal_heard : (f : Refused) (q : Queue) (e : EimState) → IsEim q e → IsEim (record q { refusal = Some f }) (heard (to_eim.Refused f) e)

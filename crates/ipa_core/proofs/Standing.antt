@@ -1,16 +1,15 @@
 -- An assistant stands for all that happened to it, before and after each event.
-use Rattle.std.proofs.Common.{◌≡◌, ℕ, ◌+◌, ◌≤◌, ◌<◌, suc, Bool, true, false, List, [], ◌∷◌, refl, ◌∙◌, ap, sym, subst, arith, add-one, Option, None, Some}
-use Rattle.std.specs.Prelude.{◌==◌, ◌%◌, if◌then◌else◌, Result, Ok, Err, IfOk, OnOk}
+use Rattle.std.proofs.Common.{◌≡◌, ℕ, ◌+◌, ◌≤◌, ◌<◌, suc, Bool, true, false, List, [], ◌∷◌, refl, ◌∙◌, ap, sym, arith, None, Some}
+use Rattle.std.specs.Prelude.{◌==◌, ◌%◌, Result, Ok, Err, IfOk, OnOk}
 use Rattle.std.proofs.Math.Nat.{suc-mod, mod-eq_of_lt}
 use Rattle.std.proofs.lemmas.Bool.{cond-true, cond-false, eqb-true, eq-eqb}
 use Rattle.small_card.specs.declared.types.Answer.{Answer}
 use Rattle.small_card.specs.declared.types.PackageResult.{PackageResult}
 use Rattle.small_card.specs.declared.types.Refused.{Refused}
 use Rattle.small_card.specs.declared.types.Answer.TheVariants as answer
-use Rattle.esipa_codec.specs.Assistant.{IpaEvent, poll, push, message, probe, answered, restart, is_failed_probe, ends_failures, failures, strikes, asked, act_of, refusal_to, results_to}
+use Rattle.esipa_codec.specs.Assistant.{IpaEvent, poll, push, message, probe, answered, restart, is_failed_probe, ends_failures, failures, strikes, asked, act_of}
 use Rattle.esipa_codec.specs.declared.ends.Act.{Act}
 use Rattle.esipa_codec.specs.declared.ends.Act.TheVariants as act
-use Rattle.esipa_codec.specs.declared.messages.ToIpa.{ToIpa}
 use Rattle.esipa_codec.specs.declared.messages.ToIpa.TheVariants as to_ipa
 use Rattle.ipa_core.specs.Assistants.{IsIpa}
 use Rattle.ipa_core.specs.declared.assistant.Ipa.{Ipa}
@@ -102,7 +101,7 @@ pub failed_act : (ipa : Ipa) (es : List IpaEvent) → IsIpa ipa es → ipa.strik
 unfolding act_of
 failed_act ipa es h l =
     sym (cond-false (failures (probe false ∷ es) % 3 == 0) act.Rollback act.Rest
-        (ap (λ n. n == 0) (below ipa es h l ∙ omega arith) ∙ not_zero ipa.strikes))
+    (ap (λ n. n == 0) (below ipa es h l ∙ omega arith) ∙ not_zero ipa.strikes))
 
 pub third_act : (ipa : Ipa) (es : List IpaEvent) → IsIpa ipa es → ipa.strikes ≤ 2 → 3 ≤ ipa.strikes + 1 → act.Rollback ≡ act_of es (probe false)
 unfolding act_of

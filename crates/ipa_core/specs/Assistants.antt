@@ -1,5 +1,5 @@
 -- What an assistant in code stands for.
-use Rattle.std.specs.Prelude.{◌≡◌, ℕ, List, Option}
+use Rattle.std.specs.Prelude.{◌≡◌, List}
 use Rattle.esipa_codec.specs.Assistant.{IpaEvent, strikes, asked}
 use Rattle.ipa_core.specs.declared.assistant.Ipa.{Ipa}
 

@@ -1,9 +1,6 @@
-use Rattle.std.proofs.Common.{◌∷◌, ◌∙◌, ap, refl, sym, subst, Result, Ok, Err, None}
-use Rattle.std.specs.Prelude.{◌≡◌, OnOk, IfOk}
+use Rattle.std.proofs.Common.{◌∷◌, ◌∙◌, ap, sym, subst, None}
 use Rattle.small_card.specs.declared.types.Answer.{Answer}
-use Rattle.small_card.specs.declared.types.Answer.TheVariants as answer
 use Rattle.esipa_codec.specs.Assistant.{act_of, answered, refusal_to}
-use Rattle.esipa_codec.specs.declared.ends.Act.{Act}
 use Rattle.ipa_core.specs.Assistants.{IsIpa}
 use Rattle.ipa_core.proofs.Standing.{taken, refused, listed, other_act, other_stands, ok_then, on_ok}
 use Rattle.ipa_core.proofs.assistant.Ipa.on_answer.Goals as goal

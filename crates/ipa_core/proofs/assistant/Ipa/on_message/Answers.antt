@@ -1,4 +1,4 @@
-use Rattle.std.proofs.Common.{◌≡◌, ◌∷◌, ap, refl, sym, subst, Some}
+use Rattle.std.proofs.Common.{◌∷◌, ap, sym, subst, Some}
 use Rattle.esipa_codec.specs.Assistant.{act_of, message}
 use Rattle.esipa_codec.specs.declared.messages.ToIpa.{ToIpa}
 use Rattle.ipa_core.specs.Assistants.{IsIpa}

@@ -1,6 +1,5 @@
-use Rattle.std.proofs.Common.{◌≡◌, ◌∷◌, ◌+◌, ◌∙◌, ap, sym, subst, Bool}
+use Rattle.std.proofs.Common.{◌∷◌, ◌+◌, ◌∙◌, ap, sym, subst, Bool}
 use Rattle.esipa_codec.specs.Assistant.{act_of, probe}
-use Rattle.esipa_codec.specs.declared.ends.Act.TheVariants as act
 use Rattle.ipa_core.specs.Assistants.{IsIpa}
 use Rattle.ipa_core.proofs.Standing.{passed, failed, failed_third, failed_act, third_act}
 use Rattle.ipa_core.proofs.assistant.Ipa.on_probe.Goals as goal
