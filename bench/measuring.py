@@ -1,5 +1,6 @@
-"""What the benchmarks share: frames, and runs of a command over an input."""
+"""What the benchmarks share: frames, and runs of commands over inputs, turn by turn."""
 import os
+import shutil
 import statistics
 import subprocess
 import sys
@@ -8,7 +9,7 @@ import time
 
 TOP = os.path.dirname(os.path.dirname(os.path.abspath(__file__)))
 PROGRAM = f"{TOP}/crates/iot_program/out/iot_program"
-MOST_FRAMES = 2000
+MOST_FRAMES = 100_000
 
 
 def frames(stream):
@@ -18,23 +19,56 @@ def frames(stream):
         stream = stream[length:]
 
 
+def stored(given):
+    """A file with these octets, to be read again and again."""
+    source = tempfile.TemporaryFile()
+    source.write(given)
+    source.flush()
+    return source
+
+
 def ran(command, source):
-    """The seconds that a command takes over the input, and its peak memory in KiB."""
+    """The seconds that a command takes over the input."""
     source.seek(0)
     begun = time.perf_counter()
-    child = subprocess.Popen(command, stdin=source, stdout=subprocess.DEVNULL)
-    _, status, usage = os.wait4(child.pid, 0)
+    status = subprocess.run(command, stdin=source, stdout=subprocess.DEVNULL).returncode
     spent = time.perf_counter() - begun
-    child.returncode = os.waitstatus_to_exitcode(status)
-    if child.returncode:
-        sys.exit(f"{command} ended with {child.returncode}")
-    return spent, usage.ru_maxrss
+    if status:
+        sys.exit(f"{command} ended with {status}")
+    return spent
 
 
-def median(command, given, runs):
-    """The median of the seconds, and the greatest peak memory in KiB."""
-    with tempfile.TemporaryFile() as source:
-        source.write(given)
-        source.flush()
-        both = [ran(command, source) for _ in range(runs)]
-    return statistics.median(spent for spent, _ in both), max(peak for _, peak in both)
+def turns(jobs, runs):
+    """The seconds of each job, a command and its input, in each of so many turns of all of them."""
+    jobs = [(command, stored(given)) for command, given in jobs]
+    return [[ran(command, source) for command, source in jobs] for _ in range(runs)]
+
+
+def peak(command, given):
+    """The peak memory of a command in KiB, or none without GNU time.
+
+    A child that Python starts begins with Python's own memory, so a small program starts it."""
+    timer = shutil.which("time")
+    if timer is None:
+        return None
+    with tempfile.NamedTemporaryFile("r") as told, stored(given) as source:
+        source.seek(0)
+        measured = [timer, "-f", "%M", "-o", told.name, *command]
+        subprocess.run(measured, stdin=source, stdout=subprocess.DEVNULL, check=True)
+        return int(told.read())
+
+
+def spread(values, digits=0):
+    """The median of values and their range; a value that isn't above zero says nothing."""
+    good = sorted(value for value in values if value > 0)
+    if not good:
+        return "too small to measure"
+    low, middle, high = good[0], statistics.median(good), good[-1]
+    lost = len(values) - len(good)
+    note = f", {lost} of {len(values)} turns too small to measure" if lost else ""
+    return f"{middle:,.{digits}f} ({low:,.{digits}f} to {high:,.{digits}f}{note})"
+
+
+def rate(amount, longer, shorter):
+    """An amount per second of what the longer time has more; 0 where it hasn't."""
+    return amount / (longer - shorter) if longer > shorter else 0

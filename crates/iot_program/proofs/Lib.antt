@@ -1,9 +1,8 @@
-pub mod Broken
-pub mod Histories
-pub mod Going
-pub mod Short
-pub mod Replying
-pub mod Ending
-pub mod Serving
-pub mod Stopping
-pub mod Once
+mod Histories
+mod Replying
+mod Answering
+mod Broken
+mod Stopping
+mod Serving
+mod Once
+mod Spelled

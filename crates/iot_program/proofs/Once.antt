@@ -13,22 +13,17 @@ use Rattle.result_codec.specs.Laws.{AreOctets}
 use Rattle.es10_codec.specs.Reading.{command_at}
 use Rattle.es10_codec.proofs.CommandCodec.{command_codec}
 use Rattle.small_card.specs.Fresh.{fresh}
-use Rattle.iot_program.specs.Cards.{started, start_of, after_frame, history_of, history_after}
-use Rattle.iot_program.proofs.Histories.{map_some}
-use Rattle.iot_program.proofs.Replying.{fresh_legal, fresh_valid, values}
+use Rattle.iot_program.specs.Cards.{started, after_command, after_frame, history_of}
+use Rattle.small_card.proofs.Fresh.{fresh_valid}
+use Rattle.iot_program.proofs.Replying.{fresh_legal, values}
 
 in_range : (f : List ℕ) (c : Command) → AreOctets f → command_at f ≡ Some c → IsCommand c
 in_range f c octets e = (command_codec.takes f c (bounds_from_AllPass f octets) e).1.range
 
-frame_legal : (h : History) (o : Option Command) → IsLegal h → ((c : Command) → o ≡ Some c → IsCommand c) → IsLegal (after_frame h o)
-unfolding after_frame
-frame_legal h None l range = l
-frame_legal h (Some c) l range = after_legal reads_in_range h c l (range c refl)
-
-later_legal : (h : History) (fs : List (List ℕ)) → IsLegal h → Every AreOctets fs → IsLegal (history_of h fs)
-unfolding history_of
-later_legal h [] l octets = l
-later_legal h (f ∷ fs) l octets = later_legal (after_frame h (command_at f)) fs (frame_legal h (command_at f) l (λ c e. in_range f c octets.0 e)) octets.1
+command_legal : (h : History) (o : Option Command) → IsLegal h → ((c : Command) → o ≡ Some c → IsCommand c) → IsLegal (after_command h o)
+unfolding after_command
+command_legal h None l range = l
+command_legal h (Some c) l range = after_legal reads_in_range h c l (range c refl)
 
 start_legal : (o : Option Command) (h : History) → started o ≡ Some h → ((c : Command) → o ≡ Some c → IsCommand c) → IsLegal h
 start_legal (Some (command.Personalise eid ps)) h e range =
@@ -44,13 +39,22 @@ start_legal (Some command.Eims) h e range = absurd cc
 start_legal (Some (command.Initial id address key)) h e range = absurd cc
 start_legal None h e range = absurd cc
 
-first_legal : (f : List ℕ) (h : History) → AreOctets f → start_of f ≡ Some h → IsLegal h
-unfolding start_of
-first_legal f h octets e = start_legal (command_at f) h e (λ c is. in_range f c octets is)
+-- If there is a card, its history is legal.
+IsLegalIf : Option History → Type 0
+IsLegalIf o = (h : History) → o ≡ Some h → IsLegal h
 
-pub frames_legal : (fs : List (List ℕ)) (h : History) → Every AreOctets fs → history_after fs ≡ Some h → IsLegal h
-unfolding history_after
-frames_legal [] h octets e = absurd cc
-frames_legal (f ∷ fs) h octets e =
-    let (s, first, now) = map_some (start_of f) fs h e in
-    subst IsLegal now (later_legal s fs (first_legal f s octets.0 first) octets.1)
+frame_legal : (o : Option History) (f : List ℕ) → IsLegalIf o → AreOctets f → IsLegalIf (after_frame o f)
+unfolding IsLegalIf after_frame
+frame_legal (Some h) f l octets = λ later is.
+    let same : after_command h (command_at f) ≡ later = cc in
+    subst IsLegal same (command_legal h (command_at f) (l h refl) (λ c e. in_range f c octets e))
+frame_legal None f l octets = λ h is. start_legal (command_at f) h is (λ c e. in_range f c octets e)
+
+later_legal : (o : Option History) (fs : List (List ℕ)) → IsLegalIf o → Every AreOctets fs → IsLegalIf (history_of o fs)
+unfolding history_of
+later_legal o [] l octets = l
+later_legal o (f ∷ fs) l octets = later_legal (after_frame o f) fs (frame_legal o f l octets.0) octets.1
+
+pub frames_legal : (fs : List (List ℕ)) (h : History) → Every AreOctets fs → history_of None fs ≡ Some h → IsLegal h
+unfolding IsLegalIf
+frames_legal fs h octets is = later_legal None fs (λ h none. absurd cc) octets h is

@@ -11,48 +11,36 @@ use Rattle.small_card.specs.declared.types.Answer.TheVariants.{Malformed}
 use Rattle.small_card.specs.declared.types.Command.{Command}
 use Rattle.small_card.specs.declared.types.Command.TheVariants.{Personalise}
 use Rattle.small_card.specs.declared.types.Profile.{Profile}
+use Rattle.small_card.proofs.Fresh.{fresh_valid}
 use Rattle.small_card.proofs.Validity.{full_start}
-use Rattle.es10_codec.specs.Reading.{command_at}
 use Rattle.small_card.specs.Fresh.{fresh}
 use Rattle.euicc_core.specs.Steps.{IsAnswered}
-use Rattle.iot_program.specs.Cards.{reply_to, after_frame}
-use Rattle.iot_program.specs.Steps.{IsReplied, IsBegun}
+use Rattle.iot_program.specs.Cards.{reply_of, after_command}
+use Rattle.iot_program.specs.Answering.{IsReplied, IsBegun}
 
-replied_by : (h : History) (o : Option Command) (c : Command) → o ≡ Some c → (reply_to h o ≡ reply_to h (Some c)) × (after_frame h o ≡ after_frame h (Some c))
-replied_by h o c e = (ap (reply_to h) e, ap (after_frame h) e)
+replied_by : (h : History) (o : Option Command) (c : Command) → o ≡ Some c → (reply_of h o ≡ reply_of h (Some c)) × (after_command h o ≡ after_command h (Some c))
+replied_by h o c e = (ap (reply_of h) e, ap (after_command h) e)
 
-some_reply : (h : History) (c : Command) (card : FullCard) (a : Answer) → IsAnswered h c card a → (a ≡ reply_to h (Some c)) × (card ≡ full_of (after_frame h (Some c))) × IsLegal (after_frame h (Some c))
-unfolding reply_to after_frame
+some_reply : (h : History) (c : Command) (card : FullCard) (a : Answer) → IsAnswered h c card a → (a ≡ reply_of h (Some c)) × (card ≡ full_of (after_command h (Some c))) × IsLegal (after_command h (Some c))
+unfolding reply_of after_command
 some_reply h c card a is = (is.reply_is, is.card_is, is.legal)
 
-pub replied : (h : History) (f : List ℕ) (c : Command) (card : FullCard) (a : Answer) → command_at f ≡ Some c → IsAnswered h c card a → IsReplied h f card a
-replied h f c card a e is =
+pub replied : (h : History) (o : Option Command) (c : Command) (card : FullCard) (a : Answer) → o ≡ Some c → IsAnswered h c card a → IsReplied h o card a
+replied h o c card a e is =
     let r = some_reply h c card a is in
-    let s = replied_by h (command_at f) c e in
+    let s = replied_by h o c e in
     record {
       reply_is = r.0 ∙ sym s.0;
       card_is = r.1 ∙ ap full_of (sym s.1);
       legal = subst IsLegal (sym s.1) r.2;
     }
 
-pub not_a_command : (h : History) (f : List ℕ) (card : FullCard) → command_at f ≡ None → IsLegal h → full_of h ≡ card → IsReplied h f card Malformed
-unfolding reply_to after_frame
-not_a_command h f card none legal is = record {
-  reply_is = ap (reply_to h) (sym none);
-  card_is = sym is ∙ ap (λ (o : Option Command). full_of (after_frame h o)) (sym none);
-  legal = subst (λ (o : Option Command). IsLegal (after_frame h o)) (sym none) legal;
-}
-
-pub fresh_valid : (eid : List ℕ) (ps : List Profile) → IsEid eid → IsTable ps → IsValid (fresh eid ps)
-unfolding fresh
-fresh_valid eid ps e t = record {
-  card = record {
-    eid = e;
-    profiles = t;
-    managers = record { few = omega arith; each = tt; apart = tt; next = record { some = omega arith; fits = omega arith } };
-    results = record { few = omega arith; each = tt; rising = tt; next = record { some = omega arith; fits = omega arith } };
-  };
-  armed = λ a none. absurd (cc);
+pub not_a_command : (h : History) (o : Option Command) (card : FullCard) → o ≡ None → IsLegal h → full_of h ≡ card → IsReplied h o card Malformed
+unfolding reply_of after_command
+not_a_command h o card none legal is = record {
+  reply_is = ap (reply_of h) (sym none);
+  card_is = sym is ∙ ap (λ (o : Option Command). full_of (after_command h o)) (sym none);
+  legal = subst (λ (o : Option Command). IsLegal (after_command h o)) (sym none) legal;
 }
 
 pub fresh_legal : (f : FullCard) → IsValid f → IsLegal (record { start = f; units = [] })

@@ -1,5 +1,5 @@
 pub mod Words
 pub mod Cards
-pub mod Status
+pub mod Answering
+pub mod Starting
 pub mod Ends
-pub mod Steps

@@ -1,14 +1,15 @@
 //! `iot`: remote management of eSIM profiles, replayed over recorded octets.
 #![tactic(auto)]
 
+mod card;
 mod laws;
 mod run;
-mod sending;
-mod serve;
-mod stop;
 #[cfg(test)]
 mod tests;
 mod words;
+
+ghost use Rattle.std.specs.Prelude.{◌≡◌, ◌≢◌};
+ghost use Rattle.std.specs.IoError.{error_kind};
 
 use iot_bytes::{StdSink, StdSource};
 use run::{FAULTY_WORDS, run};
@@ -36,12 +37,14 @@ fn run_over_streams(rt: &HostRuntime) -> io::Result<u8> {
     Ok(run(rt.alloc(), &words, &mut source, &mut sink))
 }
 
-// What stops the program before it runs: want of memory, or a word that isn't UTF-8.
-fn status_of(error: &io::Error) -> u8 {
-    if error.kind() == ErrorKind::OutOfMemory {
-        NO_MEMORY
-    } else {
-        FAULTY_WORDS
+// The status where the program can't run: memory is wanting, or a word isn't UTF-8.
+fn status_of(error: &io::Error) -> u8
+    ensures memory { error_kind error.now ≡ ErrorKind.OutOfMemory → result ≡ 6 }
+    ensures words { error_kind error.now ≢ ErrorKind.OutOfMemory → result ≡ 1 }
+{
+    match error.kind() {
+        ErrorKind::OutOfMemory => NO_MEMORY,
+        _ => FAULTY_WORDS,
     }
 }
 

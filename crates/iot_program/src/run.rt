@@ -1,11 +1,16 @@
-ghost use Rattle.std.specs.Prelude.{◌≡◌, ◌≤◌, ◌↔◌, ◌⊎◌, ◌++◌, ℕ, List, map, string_bytes, Some, None};
-ghost use Rattle.iot_bytes.specs.Causes.{Rose};
-ghost use Rattle.iot_program.specs.Words.{form_of};
-ghost use Rattle.iot_program.specs.Ends.{framed, AreHandled, Ended, StopsWith};
+//! The top call.
 
-use crate::serve::serve;
+ghost use Rattle.std.specs.Prelude.{◌≡◌, ◌↔◌, ◌⊎◌, ◌++◌, ℕ, List, map, string_bytes, Some, None};
+ghost use Rattle.iot_bytes.specs.Causes.{Rose};
+ghost use Rattle.run_loop.specs.Edges.{edge, HasCauses};
+ghost use Rattle.run_loop.specs.Frames.{framed};
+ghost use Rattle.iot_program.specs.Words.{form_of};
+ghost use Rattle.iot_program.specs.Ends.{AreHandled, Does, StopsWith};
+
+use crate::card::CardPart;
 use crate::words::{Form, form_of_words};
 use iot_bytes::{Sink, Source};
+use run_loop::serve;
 use std::alloc::Global;
 
 /// The status of a faulty command line.
@@ -14,27 +19,40 @@ pub const FAULTY_WORDS: u8 = 1;
 /// Does what the words ask for, over a source and a sink, and gives the exit status.
 pub fn run<S: Source, K: Sink>(alloc: Global, words: &[String], source: &mut S, sink: &mut K) -> u8
     // What was read and sent, by the form of the words and the status.
-    ensures ended { Ended (form_of (map string_bytes words.now)) result (S.rest source.old) (S.rest source.new) (K.sent sink.old) (K.sent sink.new) }
+    ensures does { Does (form_of (map string_bytes words.now)) result
+        (edge (S.rest source.old) (S.faults source.old) (K.sent sink.old) (K.faults sink.old))
+        (edge (S.rest source.new) (S.faults source.new) (K.sent sink.new) (K.faults sink.new)) }
     // Status 1 comes exactly where the words have no form, and then nothing was read or written.
     ensures faulty_words { (result ≡ 1) ↔ (form_of (map string_bytes words.now) ≡ None) }
     ensures untouched_source { result ≡ 1 → source.new ≡ source.old }
     ensures untouched_sink { result ≡ 1 → sink.new ≡ sink.old }
     // Statuses 2 and 3 come only where a call on the source or on the sink failed.
-    ensures read_fault { result ≡ 2 → Rose (S.faults source.old) (S.faults source.new) }
-    ensures write_fault { result ≡ 3 → Rose (K.faults sink.old) (K.faults sink.new) }
-    ensures read_later { S.faults source.old ≤ S.faults source.new }
-    ensures write_later { K.faults sink.old ≤ K.faults sink.new }
+    ensures causes { HasCauses
+        (edge (S.rest source.old) (S.faults source.old) (K.sent sink.old) (K.faults sink.old))
+        (edge (S.rest source.new) (S.faults source.new) (K.sent sink.new) (K.faults sink.new))
+        (result ≡ 2) (result ≡ 3) }
     // Whole frames within the limits, of which the first personalises the card, are answered to
     // their end where no call on the source or the sink fails and memory suffices.
-    ensures complete { (input : List ℕ) (fs : List (List ℕ)) → form_of (map string_bytes words.now) ≡ Some Form.Card → S.rest source.old ≡ Some input → input ≡ framed fs → AreHandled fs
-        → ¬ Rose (S.faults source.old) (S.faults source.new) → ¬ Rose (K.faults sink.old) (K.faults sink.new) → (result ≡ 0) ⊎ (result ≡ 6) }
-    // An input that stops behind such frames ends the run with the status of its reason: torn, past a
-    // limit, or a first frame that doesn't personalise the card.
-    ensures stops { (input : List ℕ) (fs : List (List ℕ)) (tail : List ℕ) → form_of (map string_bytes words.now) ≡ Some Form.Card → S.rest source.old ≡ Some input → input ≡ framed fs ++ tail → AreHandled fs
-        → ¬ Rose (S.faults source.old) (S.faults source.new) → ¬ Rose (K.faults sink.old) (K.faults sink.new) → StopsWith fs tail result }
+    ensures complete { (input : List ℕ) (fs : List (List ℕ))
+        → form_of (map string_bytes words.now) ≡ Some Form.Card
+        → S.rest source.old ≡ Some input → input ≡ framed fs → AreHandled fs
+        → ¬ Rose (S.faults source.old) (S.faults source.new)
+        → ¬ Rose (K.faults sink.old) (K.faults sink.new)
+        → (result ≡ 0) ⊎ (result ≡ 6) }
+    // An input that stops behind such frames ends the run with the status of its reason: torn, past
+    // a limit, or a first frame that doesn't personalise the card.
+    ensures stops { (input : List ℕ) (fs : List (List ℕ)) (tail : List ℕ)
+        → form_of (map string_bytes words.now) ≡ Some Form.Card
+        → S.rest source.old ≡ Some input → input ≡ framed fs ++ tail → AreHandled fs
+        → ¬ Rose (S.faults source.old) (S.faults source.new)
+        → ¬ Rose (K.faults sink.old) (K.faults sink.new)
+        → StopsWith fs tail result }
 {
     match form_of_words(words) {
-        Some(Form::Card) => serve(alloc, source, sink).status(),
+        Some(Form::Card) => {
+            let mut part = CardPart::none();
+            serve(alloc, &mut part, source, sink).status()
+        }
         None => FAULTY_WORDS,
     }
 }

@@ -1,31 +1,30 @@
+//! The worked examples, and what no clause says: the octets that are printed, however they come
+//! and go.
+
 use crate::run::run;
-use iot_bytes::{MemSink, MemSource, Row, put_hex, read_hex};
+use crate::status_of;
+use iot_bytes::{MemSink, MemSource, Row, read_hex};
+use run_loop::MOST_FRAMES;
 use std::alloc::Global;
+use std::io::{self, ErrorKind};
 use std::test::Fail;
 
 const PERSONALISE: &str =
-    "00000029a0278010000102030405060708090a0b0c0d0e0fa1133011800a984400000000000000018101008200";
+    "a0278010000102030405060708090a0b0c0d0e0fa1133011800a984400000000000000018101008200";
 
-const INITIAL: &str = "0000000aa6088002653181008200";
+const INITIAL: &str = "a6088002653181008200";
 
-const LOAD: &str =
-    "00000039a13780010181323030302c800265318110000102030405060708090a0b0c0d0e0f820101830101a40ea00c800a984400000000000000018600";
+// A load of the package of this manager, EID, association and counter, with this verdict.
+const LOAD: &str = "a1378001018132 3030302c80026531 8110000102030405060708090a0b0c0d0e0f \
+    820101 830101 a40ea00c800a98440000000000000001 8600";
 
-const PERSONALISED: &str = "000000028000";
+const PERSONALISED: &str = "8000";
 
-const ASSOCIATED: &str = "00000005a903800101";
+const ASSOCIATED: &str = "a903800101";
 
-const LOADED: &str = "00000018a116301480010181026531820101830101a405a003800100";
+const LOADED: &str = "a116 3014 800101 81026531 820101 830101 a405a003800100";
 
-const REPLAYED: &str = "0000000ba209800106810101820101";
-
-const MALFORMED: &str = "000000028b00";
-
-/// A package of one list, in a load up to the octet that is its counter, and what follows.
-const LIST: [&str; 2] = [
-    "0000002da12b800101812630243020800265318110000102030405060708090a0b0c0d0e0f8201018301",
-    "a40283008600",
-];
+const MALFORMED: &str = "8b00";
 
 /// A source gives so many octets a call and fails at the named calls; a sink takes so many in all,
 /// and fails at the named calls.
@@ -40,258 +39,237 @@ struct Edge<'a> {
 const WHOLE: Edge<'static> = Edge {
     piece: 1 << 20,
     failing: &[],
-    room: 1 << 16,
+    room: 1 << 21,
     refusing: &[],
 };
 
-fn joined(alloc: Global, parts: &[&str]) -> Result<String, Fail> {
-    let mut text = String::new(alloc);
-    for part in parts {
-        text.push_str(part)?;
+/// Appends the octets of a text in hexadecimal; spaces are for its reader.
+fn put(out: &mut Row<u8>, alloc: Global, text: &str) -> Result<(), Fail> {
+    let mut digits = Row::new(alloc);
+    for octet in text.as_bytes() {
+        if *octet != b' ' {
+            digits.append(&[*octet])?;
+        }
     }
-    Ok(text)
+    let Ok(octets) = read_hex(alloc, digits.as_slice()) else {
+        return Err("the text isn't hexadecimal".into());
+    };
+    out.append(octets.as_slice())?;
+    Ok(())
 }
 
-/// The status of `card x` over an input in hexadecimal digits, a space, and what it sent.
-fn card(alloc: Global, input: &str, edge: &Edge<'_>) -> Result<String, Fail> {
+/// The frames of contents in hexadecimal, and octets behind them.
+fn frames(alloc: Global, contents: &[&str], rest: &str) -> Result<Row<u8>, Fail> {
+    let mut out = Row::new(alloc);
+    for content in contents {
+        let mut octets = Row::new(alloc);
+        put(&mut octets, alloc, content)?;
+        out.append(&(octets.len() as u32).to_be_bytes())?;
+        out.append(octets.as_slice())?;
+    }
+    put(&mut out, alloc, rest)?;
+    Ok(out)
+}
+
+/// Whether `card x` over an input ends with the status, and these octets are sent.
+fn ends(
+    alloc: Global,
+    input: &Row<u8>,
+    edge: &Edge<'_>,
+    status: u8,
+    sent: &Row<u8>,
+) -> Result<bool, Fail> {
     let mut failing = Row::new(alloc);
     failing.append(edge.failing)?;
-    let Ok(octets) = read_hex(alloc, input.as_bytes()) else {
-        return Err("the input is no hexadecimal text".into());
-    };
-    let mut source = MemSource::new(octets, edge.piece.max(1), failing);
     let mut refusing = Row::new(alloc);
     refusing.append(edge.refusing)?;
+    let mut source = MemSource::new(input.copy(alloc)?, edge.piece.max(1), failing);
     let mut sink = MemSink::new(alloc, edge.room, edge.piece.max(1), refusing)?;
     let words = [
         String::from_str(alloc, "card")?,
         String::from_str(alloc, "x")?,
     ];
-    let status = run(alloc, &words, &mut source, &mut sink);
-    let mut text = Row::new(alloc);
-    put_hex(&mut text, sink.taken())?;
-    let Ok(sent) = std::str::from_utf8(text.as_slice()) else {
-        return Err("hexadecimal digits are UTF-8".into());
-    };
-    Ok(format!(in alloc; "{status} {sent}")?)
+    let ended = run(alloc, &words, &mut source, &mut sink);
+    Ok(ended == status && sink.taken() == sent.as_slice())
 }
 
-/// Whether the input, in pieces of 1, of 3 and of all octets, ends so and sends this.
-fn in_pieces(alloc: Global, input: &str, wanted: &str) -> Result<bool, Fail> {
-    let by_ones = card(alloc, input, &Edge { piece: 1, ..WHOLE })?.as_str() == wanted;
-    let by_threes = card(alloc, input, &Edge { piece: 3, ..WHOLE })?.as_str() == wanted;
-    let whole = card(alloc, input, &WHOLE)?.as_str() == wanted;
-    Ok(by_ones && by_threes && whole)
-}
-
-/// Whether the frames before and these octets end with the status, and these answers are sent.
+/// Whether frames and octets behind them, in pieces of 1, of 3 and of all octets, end with the
+/// status, and these frames are sent.
 fn gives(
     alloc: Global,
-    before: &[&str],
-    octets: &str,
-    status: &str,
+    input: &[&str],
+    rest: &str,
+    status: u8,
     sent: &[&str],
 ) -> Result<bool, Fail> {
-    let mut input = joined(alloc, before)?;
-    input.push_str(octets)?;
-    let mut wanted = String::from_str(alloc, status)?;
-    wanted.push_str(joined(alloc, sent)?.as_str())?;
-    in_pieces(alloc, input.as_str(), wanted.as_str())
-}
-
-/// A text, and another so many times.
-fn repeated(alloc: Global, first: &str, other: &str, times: u32) -> Result<String, Fail> {
-    let mut text = String::from_str(alloc, first)?;
-    for _ in 0..times {
-        text.push_str(other)?;
+    let input = frames(alloc, input, rest)?;
+    let sent = frames(alloc, sent, "")?;
+    for piece in [1, 3, 1 << 20] {
+        if !ends(alloc, &input, &Edge { piece, ..WHOLE }, status, &sent)? {
+            return Ok(false);
+        }
     }
-    Ok(text)
+    Ok(true)
 }
 
-/// Answers to the first load and to what follows it.
+/// What follows the first two frames, and its answers.
 #[test]
-fn first_loads(rt: HostRuntime) -> Result<(), Fail> {
+fn sequences_of_commands(rt: HostRuntime) -> Result<(), Fail> {
     let alloc = rt.alloc();
-    let padded =
-        "0000003aa13880010181333031302d800265318110000102030405060708090a0b0c0d0e0f82010183020001a40ea00c800a984400000000000000018600";
-    let malformed = "0000000ba209800101810100820100";
-    let list = joined(alloc, &[LIST[0], "02", LIST[1]])?;
-    let listed =
-        "00000028a126302480010281026531820101830102a415a3133011800a984400000000000000018101018200";
-    for (third, fourth, wanted, last) in [
-        (LOAD, "", LOADED, ""),
-        (LOAD, LOAD, LOADED, REPLAYED),
-        (padded, LOAD, malformed, LOADED),
-        (LOAD, list.as_str(), LOADED, listed),
-        (PERSONALISE, LOAD, "000000028c00", LOADED),
-        (INITIAL, LOAD, "00000005aa03800101", LOADED),
-        ("00000001ff", "00000000", MALFORMED, MALFORMED),
-    ] {
-        let sent = [PERSONALISED, ASSOCIATED, wanted, last];
-        assert!(rt;
-            gives(alloc, &[PERSONALISE, INITIAL, third], fourth, "0 ", &sent)?,
-            "for {third}"
-        );
-    }
-    Ok(())
-}
-
-/// The checks of a load, and operations on managers.
-#[test]
-fn other_loads(rt: HostRuntime) -> Result<(), Fail> {
-    let alloc = rt.alloc();
-    let other_card =
-        "00000039a13780010181323030302c800265318110000102030405060708090a0b0c0d0e10820101830101a40ea00c800a984400000000000000018600";
-    let bad_and_other =
-        "00000039a13780010081323030302c800265318110000102030405060708090a0b0c0d0e10820101830101a40ea00c800a984400000000000000018600";
-    let other_association =
-        "00000039a13780010181323030302c800265318110000102030405060708090a0b0c0d0e0f820102830101a40ea00c800a984400000000000000018600";
-    let other_manager =
-        "00000039a13780010181323030302c800265328110000102030405060708090a0b0c0d0e0f820101830101a40ea00c800a984400000000000000018600";
-    let add =
-        "00000035a133800101812e302c3028800265318110000102030405060708090a0b0c0d0e0f820101830101a50aa80880026532810082008600";
-    for (third, wanted) in [
-        (bad_and_other, "0000000ba209800103810100820100"),
-        (other_card, "0000000ba209800104810100820100"),
-        (other_association, "0000000ba209800105810100820100"),
-        (other_manager, "0000000ba209800102810100820100"),
+    let padded = "a1388001018133 3031302d80026531 8110000102030405060708090a0b0c0d0e0f \
+        820101 83020001 a40ea00c800a98440000000000000001 8600";
+    let other_card = "a1378001018132 3030302c80026531 8110000102030405060708090a0b0c0d0e10 \
+        820101 830101 a40ea00c800a98440000000000000001 8600";
+    let add = "a133800101812e 302c302880026531 8110000102030405060708090a0b0c0d0e0f \
+        820101 830101 a50aa80880026532 81008200 8600";
+    let results = "a716 3014 800101 81026531 820101 830101 a405a003800100";
+    let cases: [(&[&str], &[&str]); 8] = [
+        (&[LOAD, LOAD], &[LOADED, "a209 800106 810101 820101"]),
+        (&[padded, LOAD], &["a209 800101 810100 820100", LOADED]),
+        (&[other_card], &["a209 800104 810100 820100"]),
         (
-            add,
-            "0000001ba119301780010181026531820101830101a408a806800100810102",
+            &[add],
+            &["a119 3017 800101 81026531 820101 830101 a408a806800100810102"],
         ),
-    ] {
-        let sent = [PERSONALISED, ASSOCIATED, wanted];
-        assert!(rt;
-            gives(alloc, &[PERSONALISE, INITIAL], third, "0 ", &sent)?,
-            "for {third}"
-        );
-    }
-    let sent = [
-        PERSONALISED,
-        "0000000ba209800102810100820100",
-        ASSOCIATED,
-        LOADED,
+        // the fourth worked example
+        (
+            &[
+                LOAD,
+                "8500",
+                "8400",
+                "8200",
+                "a303800101",
+                "a303800101",
+                INITIAL,
+                PERSONALISE,
+                "ff",
+            ],
+            &[
+                LOADED,
+                "a80e 300c 80026531 8100 820101 830101",
+                results,
+                "8400",
+                "8500",
+                "8600",
+                "aa03800101",
+                "8c00",
+                MALFORMED,
+            ],
+        ),
+        (&["a303800100", INITIAL], &[MALFORMED, "aa03800101"]),
+        (&["", "ff"], &[MALFORMED, MALFORMED]),
+        (&[], &[]),
     ];
-    assert!(rt; gives(alloc, &[PERSONALISE, LOAD, INITIAL], LOAD, "0 ", &sent)?);
+    for (commands, answers) in cases {
+        let mut input = frames(alloc, &[PERSONALISE, INITIAL], "")?;
+        input.append(frames(alloc, commands, "")?.as_slice())?;
+        let mut sent = frames(alloc, &[PERSONALISED, ASSOCIATED], "")?;
+        sent.append(frames(alloc, answers, "")?.as_slice())?;
+        for piece in [1, 3, 1 << 20] {
+            let edge = Edge { piece, ..WHOLE };
+            assert!(rt;
+                ends(alloc, &input, &edge, 0, &sent)?,
+                "for {}",
+                commands.len()
+            );
+        }
+    }
     Ok(())
 }
 
-/// Eight results are kept, a ninth package finds no room until one is removed, and every other
-/// command is answered.
+/// A package that enables another profile may be rolled back once.
+#[test]
+fn a_permitted_rollback(rt: HostRuntime) -> Result<(), Fail> {
+    let two = "a03a8010000102030405060708090a0b0c0d0e0f \
+        a126 3011800a98440000000000000001810101 8200 3011800a98440000000000000002810100 8200";
+    let flagged = "a1398001018134 3032302e80026531 8110000102030405060708090a0b0c0d0e0f \
+        820101 830101 a410a00e800a984400000000000000028100 8600";
+    let removals = ["8200", "8200", "8400", "a303800101", "a303800102"];
+    let answers = [
+        "a303800102",
+        "8400",
+        "a718 3016 800102 81026531 820101 830101 a405a003800100 8500",
+        "8600",
+        "8500",
+    ];
+    let alloc = rt.alloc();
+    let mut input = frames(alloc, &[two, INITIAL, flagged], "")?;
+    input.append(frames(alloc, &removals, "")?.as_slice())?;
+    let mut sent = frames(alloc, &[PERSONALISED, ASSOCIATED, LOADED], "")?;
+    sent.append(frames(alloc, &answers, "")?.as_slice())?;
+    assert!(rt; ends(alloc, &input, &WHOLE, 0, &sent)?);
+    Ok(())
+}
+
+/// Appends the load of a package of one list with this counter.
+fn put_list(out: &mut Row<u8>, alloc: Global, counter: u8) -> Result<(), Fail> {
+    let before = "0000002d a12b8001018126 3024302080026531 8110000102030405060708090a0b0c0d0e0f \
+        820101 8301";
+    put(out, alloc, before)?;
+    out.append(&[counter])?;
+    put(out, alloc, "a4028300 8600")
+}
+
+/// Appends its answer, where this is the number of the result too.
+fn put_listed(out: &mut Row<u8>, alloc: Global, number: u8) -> Result<(), Fail> {
+    put(out, alloc, "00000028 a126 3024 8001")?;
+    out.append(&[number])?;
+    put(out, alloc, "81026531 820101 8301")?;
+    out.append(&[number])?;
+    put(
+        out,
+        alloc,
+        "a415a3133011800a98440000000000000001810101 8200",
+    )
+}
+
+/// Eight results are kept, and a ninth package finds no room until one is removed.
 #[test]
 fn results_are_kept(rt: HostRuntime) -> Result<(), Fail> {
     let alloc = rt.alloc();
-    let mut input = joined(alloc, &[PERSONALISE, INITIAL])?;
-    let mut wanted = joined(alloc, &["0 ", PERSONALISED, ASSOCIATED])?;
-    let items = "a415a3133011800a984400000000000000018101008200";
-    for n in ["1", "2", "3", "4", "5", "6", "7", "8"] {
-        for part in [LIST[0], "0", n, LIST[1]] {
-            input.push_str(part)?;
-        }
-        for part in [
-            "00000028a12630248001",
-            "0",
-            n,
-            "81026531820101830",
-            "10",
-            n,
-            items,
-        ] {
-            wanted.push_str(part)?;
-        }
+    let mut input = frames(alloc, &[PERSONALISE, INITIAL], "")?;
+    let mut sent = frames(alloc, &[PERSONALISED, ASSOCIATED], "")?;
+    for number in 1..9 {
+        put_list(&mut input, alloc, number)?;
+        put_listed(&mut sent, alloc, number)?;
     }
-    for part in [LIST[0], "09", LIST[1], "00000005a303800105"] {
-        input.push_str(part)?;
-    }
-    for part in [LIST[0], "09", LIST[1]] {
-        input.push_str(part)?;
-    }
-    wanted.push_str("0000000ba209800107810100820100000000028500")?;
-    for part in ["00000028a126302480010981026531820101830109", items] {
-        wanted.push_str(part)?;
-    }
-    assert_eq!(rt;
-        card(alloc, input.as_str(), &WHOLE)?.as_str(),
-        wanted.as_str()
-    );
+    put_list(&mut input, alloc, 9)?;
+    put(&mut input, alloc, "00000005 a303800105")?;
+    put_list(&mut input, alloc, 9)?;
+    put(&mut sent, alloc, "0000000b a209 800107 810100 820100")?;
+    put(&mut sent, alloc, "00000002 8500")?;
+    put_listed(&mut sent, alloc, 9)?;
+    assert!(rt; ends(alloc, &input, &WHOLE, 0, &sent)?);
     Ok(())
 }
 
-/// A rollback, removals and listings, as the first load is followed by them.
-#[test]
-fn other_commands(rt: HostRuntime) -> Result<(), Fail> {
-    let alloc = rt.alloc();
-    let results = "00000018a716301480010181026531820101830101a405a003800100";
-    let managers = "00000010a80e300c800265318100820101830101";
-    for (command, wanted) in [
-        ("000000028500", managers),
-        ("000000028400", results),
-        ("000000028200", "000000028400"),
-        ("00000005a303800101", "000000028500"),
-        ("00000005a303800102", "000000028600"),
-        ("00000005a303800100", MALFORMED),
-        (INITIAL, "00000005aa03800101"),
-    ] {
-        let sent = [PERSONALISED, ASSOCIATED, LOADED, wanted];
-        assert!(rt;
-            gives(alloc, &[PERSONALISE, INITIAL, LOAD], command, "0 ", &sent)?,
-            "for {command}"
-        );
-    }
-    Ok(())
-}
-
-#[test]
-fn a_permitted_rollback(rt: HostRuntime) -> Result<(), Fail> {
-    let alloc = rt.alloc();
-    let two =
-        "0000003ca03a8010000102030405060708090a0b0c0d0e0fa1263011800a9844000000000000000181010182003011800a984400000000000000028101008200";
-    let flagged =
-        "0000003ba13980010181343032302e800265318110000102030405060708090a0b0c0d0e0f820101830101a410a00e800a9844000000000000000281008600";
-    let commands = "00000002820000000002820000000002840000000005a30380010100000005a303800102";
-    let answers = [
-        PERSONALISED,
-        ASSOCIATED,
-        LOADED,
-        "00000005a303800102",
-        "000000028400",
-        "0000001aa718301680010281026531820101830101a405a0038001008500",
-        "000000028600",
-        "000000028500",
-    ];
-    assert!(rt; gives(alloc, &[two, INITIAL, flagged], commands, "0 ", &answers)?);
-    Ok(())
-}
-
-/// Nothing that was answered is lost, wherever the input ends, and only a whole frame is answered.
+/// Nothing that was answered is lost wherever the input ends, and only a whole frame is answered.
 #[test]
 fn input_cut_after_each_octet(rt: HostRuntime) -> Result<(), Fail> {
     let alloc = rt.alloc();
-    for cut in 1..60 {
-        if let Some(part) = PERSONALISE.get(..2 * cut) {
-            let whole = part.len() == PERSONALISE.len();
-            let status = if whole { "0 " } else { "5 " };
-            let sent = if whole {
-                PERSONALISED
-            } else {
-                "00000008ad06800105810101"
-            };
-            assert!(rt; gives(alloc, &[], part, status, &[sent])?, "for {part}");
+    let octets = frames(alloc, &[PERSONALISE, INITIAL, LOAD], "")?;
+    let ends_of_frames = [0, 45, 59, 120];
+    let answers = [PERSONALISED, ASSOCIATED, LOADED];
+    let stopped = [
+        "ad06 800105 810101",
+        "ad06 800105 810102",
+        "ad06 800105 810103",
+    ];
+    for cut in 0..=octets.len() {
+        let mut input = octets.copy(alloc)?;
+        input.cut(cut);
+        let whole = ends_of_frames
+            .iter()
+            .filter(|end| **end <= cut && **end > 0)
+            .count();
+        let mut sent = frames(alloc, answers.get(..whole).unwrap_or(&[]), "")?;
+        let torn = !ends_of_frames.contains(&cut);
+        if torn {
+            let record = stopped.get(whole..whole + 1).unwrap_or(&[]);
+            sent.append(frames(alloc, record, "")?.as_slice())?;
         }
-        if let Some(part) = LOAD.get(..2 * cut) {
-            let whole = part.len() == LOAD.len();
-            let status = if whole { "0 " } else { "5 " };
-            let last = if whole {
-                LOADED
-            } else {
-                "00000008ad06800105810103"
-            };
-            let sent = [PERSONALISED, ASSOCIATED, last];
-            assert!(rt;
-                gives(alloc, &[PERSONALISE, INITIAL], part, status, &sent)?,
-                "for {part}"
-            );
-        }
+        let status = if torn { 5 } else { 0 };
+        assert!(rt; ends(alloc, &input, &WHOLE, status, &sent)?, "cut at {cut}");
     }
     Ok(())
 }
@@ -299,144 +277,124 @@ fn input_cut_after_each_octet(rt: HostRuntime) -> Result<(), Fail> {
 #[test]
 fn inputs_that_stop(rt: HostRuntime) -> Result<(), Fail> {
     let alloc = rt.alloc();
-    let two_enabled =
-        "0000003ca03a8010000102030405060708090a0b0c0d0e0fa1263011800a9844000000000000000181010182003011800a984400000000000000028101018200";
-    let unrecognised = "00000008ad06800108810101";
-    for (first, second, status, sent, last) in [
+    let two_enabled = "a03a8010000102030405060708090a0b0c0d0e0f \
+        a126 3011800a98440000000000000001810101 8200 3011800a98440000000000000002810101 8200";
+    let unrecognised = "ad06 800108 810101";
+    let cases: [(&[&str], &str, u8, &[&str]); 9] = [
         // the first frame doesn't personalise a card
-        (INITIAL, "", "8 ", "", unrecognised),
-        ("000000028400", "", "8 ", "", unrecognised),
-        ("00000000", "", "8 ", "", unrecognised),
-        (two_enabled, LOAD, "8 ", "", unrecognised),
+        (&[INITIAL], "", 8, &[unrecognised]),
+        (&["", PERSONALISE], "", 8, &[unrecognised]),
+        (&[two_enabled, LOAD], "", 8, &[unrecognised]),
         // a frame above the limit of 262,144 octets, and one at the limit that isn't whole
-        ("00040001", "", "7 ", "", "00000008ad06800107810101"),
+        (&[], "00040001", 7, &["ad06 800107 810101"]),
         (
-            PERSONALISE,
-            "00040001",
-            "7 ",
-            PERSONALISED,
-            "00000008ad06800107810102",
+            &[PERSONALISE],
+            "00040001 ff",
+            7,
+            &[PERSONALISED, "ad06 800107 810102"],
         ),
         (
-            PERSONALISE,
+            &[PERSONALISE],
             "00040000",
-            "5 ",
-            PERSONALISED,
-            "00000008ad06800105810102",
+            5,
+            &[PERSONALISED, "ad06 800105 810102"],
         ),
-        ("000000", "", "5 ", "", "00000008ad06800105810101"),
-        (PERSONALISE, "", "0 ", PERSONALISED, ""),
-        ("", "", "0 ", "", ""),
-    ] {
+        (&[], "000000", 5, &["ad06 800105 810101"]),
+        (&[PERSONALISE], "", 0, &[PERSONALISED]),
+        (&[], "", 0, &[]),
+    ];
+    for (input, rest, status, sent) in cases {
         assert!(rt;
-            gives(alloc, &[first], second, status, &[sent, last])?,
-            "for {first} {second}"
+            gives(alloc, input, rest, status, sent)?,
+            "{status} behind {rest}"
         );
     }
     Ok(())
 }
 
-/// Whether the first load over this edge ends with the status, and these octets are sent.
-fn ends(alloc: Global, edge: &Edge<'_>, status: &str, sent: &[&str]) -> Result<bool, Fail> {
-    let input = joined(alloc, &[PERSONALISE, INITIAL, LOAD])?;
-    let mut wanted = String::from_str(alloc, status)?;
-    wanted.push_str(joined(alloc, sent)?.as_str())?;
-    Ok(card(alloc, input.as_str(), edge)?.as_str() == wanted.as_str())
-}
-
+/// The first load over edges that fail.
 #[test]
-fn sources_that_fail(rt: HostRuntime) -> Result<(), Fail> {
+fn edges_that_fail(rt: HostRuntime) -> Result<(), Fail> {
     let alloc = rt.alloc();
+    let input = frames(alloc, &[PERSONALISE, INITIAL, LOAD], "")?;
     let answers = [PERSONALISED, ASSOCIATED, LOADED];
+    let stopped = [
+        "ad06 800102 810101",
+        "ad06 800102 810102",
+        "ad06 800102 810103",
+        "ad06 800102 810104",
+    ];
+    // two calls of the source a frame, one of the sink an answer
     for call in 0..7 {
+        let at = call as usize / 2;
+        let mut sent = frames(alloc, answers.get(..at).unwrap_or(&[]), "")?;
+        let record = stopped.get(at..at + 1).unwrap_or(&[]);
+        sent.append(frames(alloc, record, "")?.as_slice())?;
         let failing = [call];
         let edge = Edge {
             failing: &failing,
             ..WHOLE
         };
-        let handled = (call / 2) as usize;
-        let number = ["1", "2", "3", "4"];
-        let Some(number) = number.get(handled) else {
-            return Err("there are four frames".into());
-        };
-        let mut sent = joined(alloc, answers.get(..handled).unwrap_or(&[]))?;
-        sent.push_str("00000008ad068001028101")?;
-        sent.push_str("0")?;
-        sent.push_str(number)?;
-        assert!(rt;
-            ends(alloc, &edge, "2 ", &[sent.as_str()])?,
-            "at call {call}"
-        );
+        assert!(rt; ends(alloc, &input, &edge, 2, &sent)?, "at read {call}");
     }
-    Ok(())
-}
-
-#[test]
-fn sinks_that_fail(rt: HostRuntime) -> Result<(), Fail> {
-    let alloc = rt.alloc();
-    let answers = [PERSONALISED, ASSOCIATED, LOADED];
     for call in 0..3 {
+        let sent = frames(alloc, answers.get(..call as usize).unwrap_or(&[]), "")?;
         let refusing = [call];
         let edge = Edge {
             refusing: &refusing,
             ..WHOLE
         };
-        let sent = answers.get(..call as usize).unwrap_or(&[]);
-        assert!(rt; ends(alloc, &edge, "3 ", sent)?, "at call {call}");
+        assert!(rt; ends(alloc, &input, &edge, 3, &sent)?, "at write {call}");
     }
-    for piece in [1, 3, 1 << 20] {
-        let edge = Edge { piece, ..WHOLE };
-        assert!(rt; ends(alloc, &edge, "0 ", &answers)?);
-        // a sink with room for 20 octets: five of the last answer
-        let edge = Edge { room: 20, ..edge };
-        let sent = [PERSONALISED, ASSOCIATED, "00000018a1"];
-        assert!(rt; ends(alloc, &edge, "3 ", &sent)?);
-    }
-    // the stop record itself finds no room
+    // a sink with room for 20 octets: five of the last answer
+    let sent = frames(alloc, &[PERSONALISED, ASSOCIATED], "00000018 a1")?;
     let edge = Edge {
-        failing: &[2],
-        room: 9,
+        room: 20,
+        piece: 3,
         ..WHOLE
     };
-    assert!(rt; ends(alloc, &edge, "3 ", &[PERSONALISED, "000000"])?);
+    assert!(rt; ends(alloc, &input, &edge, 3, &sent)?);
+    // the stop record itself finds no room
+    let sent = frames(alloc, &[PERSONALISED], "000000")?;
+    let edge = Edge {
+        room: 9,
+        failing: &[2],
+        ..WHOLE
+    };
+    assert!(rt; ends(alloc, &input, &edge, 3, &sent)?);
     Ok(())
 }
 
-/// Whether as many frames as a run may have, and these octets, end so.
-fn at_the_limit(alloc: Global, more: &str, status: &str, last: &str) -> Result<bool, Fail> {
-    let input = repeated(alloc, PERSONALISE, "00000001ff", 1999)?;
-    let sent = repeated(alloc, PERSONALISED, MALFORMED, 1999)?;
-    gives(
-        alloc,
-        &[input.as_str()],
-        more,
-        status,
-        &[sent.as_str(), last],
-    )
-}
-
+/// As many frames as a run may have, and octets behind them.
 #[test]
 fn the_limit_on_frames(rt: HostRuntime) -> Result<(), Fail> {
     let alloc = rt.alloc();
-    let past = "00000009ad07800107810207d1";
+    let mut input = frames(alloc, &[PERSONALISE], "")?;
+    let mut sent = frames(alloc, &[PERSONALISED], "")?;
+    for _ in 1..MOST_FRAMES {
+        input.append(&[0, 0, 0, 1, 0xff])?;
+        sent.append(&[0, 0, 0, 2, 0x8b, 0])?;
+    }
     for (more, status, last) in [
-        ("", "0 ", ""),
-        ("00000001ff", "7 ", past),
-        ("00", "5 ", "00000009ad07800105810207d1"),
-        ("00040001", "7 ", past),
+        ("", 0, ""),
+        ("00000001 ff", 7, "0000000a ad08 800107 81030186a1"),
+        ("00", 5, "0000000a ad08 800105 81030186a1"),
+        ("00040001", 7, "0000000a ad08 800107 81030186a1"),
     ] {
+        let mut input = input.copy(alloc)?;
+        put(&mut input, alloc, more)?;
+        let mut sent = sent.copy(alloc)?;
+        put(&mut sent, alloc, last)?;
         assert!(rt;
-            at_the_limit(alloc, more, status, last)?,
+            ends(alloc, &input, &WHOLE, status, &sent)?,
             "behind it {more}"
         );
     }
-    let hundred = repeated(alloc, "", "00000001ff", 100)?;
-    assert!(rt; at_the_limit(alloc, hundred.as_str(), "7 ", past)?);
     Ok(())
 }
 
 #[test]
-fn words_of_no_form(rt: HostRuntime) -> Result<(), Fail> {
+fn faulty_command_lines(rt: HostRuntime) -> Result<(), Fail> {
     let alloc = rt.alloc();
     for words in [["card", ""], ["cards", "x"], ["x", "card"], ["", ""]] {
         let words = [
@@ -448,7 +406,9 @@ fn words_of_no_form(rt: HostRuntime) -> Result<(), Fail> {
         assert_eq!(rt; run(alloc, &words, &mut source, &mut sink), 1);
         assert_eq!(rt; run(alloc, &words[..1], &mut source, &mut sink), 1);
         assert_eq!(rt; run(alloc, &[], &mut source, &mut sink), 1);
-        assert_eq!(rt; sink.taken(), [].as_slice());
     }
+    // a word that isn't UTF-8 is invalid data
+    assert_eq!(rt; status_of(&io::Error::from(ErrorKind::InvalidData)), 1);
+    assert_eq!(rt; status_of(&io::Error::from(ErrorKind::OutOfMemory)), 6);
     Ok(())
 }

@@ -16,7 +16,8 @@ use Rattle.run_loop.specs.Edges.{Edge, edge}
 use Rattle.run_loop.specs.Frames.{IsTaken, NoFrame}
 use Rattle.run_loop.specs.Sends.{HasSent, HasSentInto, Closes, Closed}
 use Rattle.run_loop.specs.Status.{read_status, part_status, halt_status, has_record}
-use Rattle.run_loop.specs.Runs.{Walk, Stopping, Progress, Halted, IsNumbered, SentBefore, SentFor, Ended, record_behind}
+use Rattle.run_loop.specs.Parts.{Walk, Stopping}
+use Rattle.run_loop.specs.Runs.{Progress, Halted, IsNumbered, SentBefore, SentFor, Ended, record_behind}
 use Rattle.run_loop.proofs.Going.{sent-more, sent-into, sent-none, taken-more, taken-none, rose-since, rose-until}
 
 -- no frame was answered yet

@@ -1,4 +1,4 @@
-mod Going
-mod Ending
-mod Mapping
-mod StopRecord
+pub mod Going
+pub mod Ending
+pub mod Mapping
+pub mod StopRecord

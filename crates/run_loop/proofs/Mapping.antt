@@ -10,7 +10,8 @@ use Rattle.run_loop.specs.declared.halt.Halt.{Halt}
 use Rattle.run_loop.specs.declared.halt.Halt.TheVariants.{Reading, Answering, Sending}
 use Rattle.run_loop.specs.declared.halt.RunEnd.{RunEnd}
 use Rattle.run_loop.specs.Edges.{Edge}
-use Rattle.run_loop.specs.Runs.{Walk, Stopping, Reason, Ended}
+use Rattle.run_loop.specs.Parts.{Walk, Stopping}
+use Rattle.run_loop.specs.Runs.{Reason, Ended}
 use Rattle.run_loop.specs.Status.{exit_status}
 
 reason_map : (walk walk' : Walk) (stops stops' : Stopping) (rest0 rest : Option (List ℕ)) (fs : List (List ℕ)) (text : List ℕ) (halt : Halt)

@@ -2,7 +2,6 @@
 use Rattle.std.specs.Prelude.{◌≡◌, ℕ, ◌+◌, ◌≤◌, ◌⊎◌, List, length, Option, Some, Result, Ok, Err}
 use Rattle.es10_codec.specs.Spelling.{stopped}
 use Rattle.run_loop.specs.declared.reading.TheConstants.{MOST_FRAMES}
-use Rattle.run_loop.specs.declared.halt.PartStop.{PartStop}
 use Rattle.run_loop.specs.declared.halt.ReadStop.TheVariants as reading
 use Rattle.run_loop.specs.declared.halt.SendStop.{SendStop}
 use Rattle.run_loop.specs.declared.halt.SendStop.TheVariants as sending
@@ -11,16 +10,9 @@ use Rattle.run_loop.specs.declared.halt.Halt.TheVariants.{Reading, Answering, Se
 use Rattle.run_loop.specs.declared.halt.RunEnd.{RunEnd}
 use Rattle.run_loop.specs.Edges.{Edge, HasCauses}
 use Rattle.run_loop.specs.Frames.{IsTaken, NoFrame, HasTaken}
+use Rattle.run_loop.specs.Parts.{Walk, Stopping}
 use Rattle.run_loop.specs.Sends.{HasSent, IsCutShort, Closed}
 use Rattle.run_loop.specs.Status.{halt_status, has_record}
-
--- What frames and their text make of a part.
-abbrev pub Walk : Type 1
-Walk = List (List ℕ) → List ℕ → Type 0
-
--- What frames, their text and a further frame make of a part that stops at it.
-abbrev pub Stopping : Type 1
-Stopping = List (List ℕ) → List ℕ → List ℕ → PartStop → Type 0
 
 -- These frames were answered, with this text, and the next frame is due.
 pub record Progress (behind : Walk) (old now : Edge) (count : ℕ) : Type 0 where

@@ -1,7 +1,8 @@
 //! Why a run ends, and the exit status that says so.
 
 ghost use Rattle.std.specs.Prelude.{◌≡◌};
-ghost use Rattle.run_loop.specs.Status.{exit_status, halt_status, has_record, part_status, read_status, send_status};
+ghost use Rattle.run_loop.specs.Status.{exit_status, halt_status, has_record};
+ghost use Rattle.run_loop.specs.Status.{part_status, read_status, send_status};
 
 use iot_bytes::WriteFault;
 

@@ -2,8 +2,9 @@
 //!
 //! A [`Part`] answers frames one after the other. The loop reads a frame, has it answered and sends
 //! the answer before it reads the next one, until something ends the run, and then writes the stop
-//! record. Limits, the order of causes, the stop record and the facts on faults stand here, once for
-//! all parts: a form of words gives its part, and says in [`Part`]'s ghost members what its frames did.
+//! record. Limits, the order of causes, the stop record and the facts on faults stand here, once
+//! for all parts: a form of words gives its part, and says in [`Part`]'s ghost members what its
+//! frames did.
 #![tactic(auto)]
 
 mod halt;

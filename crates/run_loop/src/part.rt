@@ -1,8 +1,7 @@
 //! What answers frames.
 
-ghost use Rattle.std.specs.Prelude.{◌≡◌, ℕ, List, []};
-ghost use Rattle.run_loop.specs.Parts.{Answers};
-ghost use Rattle.run_loop.specs.declared.halt.PartStop.{PartStop};
+ghost use Rattle.std.specs.Prelude.{[]};
+ghost use Rattle.run_loop.specs.Parts.{Walk, Stopping, Answers};
 
 use crate::halt::PartStop;
 use iot_bytes::Row;
@@ -12,11 +11,11 @@ use std::alloc::Global;
 pub trait Part {
     /// From the first state on these frames led to the second, and this text is their answers: the
     /// frame of each, one behind the other.
-    ghost behind: { Self → Self → List (List ℕ) → List ℕ → Type 0 };
+    ghost behind: { Self → Self → Walk };
 
     /// From the first state on these frames, with this text, led to a state that stopped for this
     /// reason at the further frame, and so to the second state.
-    ghost stops: { Self → Self → List (List ℕ) → List ℕ → List ℕ → PartStop → Type 0 };
+    ghost stops: { Self → Self → Stopping };
 
     /// Appends the answer to a frame.
     ///

@@ -1,7 +1,8 @@
+//! Taking frames, within the limits on their length and count.
+
 ghost use Rattle.std.specs.Prelude.{◌≡◌, ℕ, ◌≤◌, Err};
 ghost use Rattle.iot_bytes.specs.Causes.{Rose};
-ghost use Rattle.run_loop.specs.Frames.{NextFrame};
-ghost use Rattle.run_loop.specs.Frames.{NoFurther};
+ghost use Rattle.run_loop.specs.Frames.{NextFrame, NoFurther};
 
 use crate::halt::ReadStop;
 use iot_bytes::{FrameEnd, Row, Source, read_frame};

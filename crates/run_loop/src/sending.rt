@@ -1,3 +1,5 @@
+//! Sending frames: answers, and the stop record.
+
 ghost use Rattle.std.specs.Prelude.{◌≡◌, ◌≤◌, ◌++◌, List, ℕ, true, IfOk, OnErr, Err};
 ghost use Rattle.iot_bytes.specs.Causes.{Rose};
 ghost use Rattle.iot_bytes.specs.Frames.{frame};
@@ -11,7 +13,8 @@ use std::alloc::Global;
 
 /// Sends the octets of a frame.
 pub fn send_frame<K: Sink>(octets: &[u8], sink: &mut K) -> Result<(), WriteFault>
-    ensures sent { (content : List ℕ) → octets.now ≡ frame content → Sent (K.sent sink.old) (K.sent sink.new) content result }
+    ensures sent { (content : List ℕ) → octets.now ≡ frame content
+        → Sent (K.sent sink.old) (K.sent sink.new) content result }
     ensures fault { OnErr result (Rose (K.faults sink.old) (K.faults sink.new)) }
     ensures later { K.faults sink.old ≤ K.faults sink.new }
 {
@@ -36,7 +39,8 @@ pub fn send_stopped<K: Sink>(
     number: u64,
     sink: &mut K,
 ) -> Result<(), SendStop>
-    ensures closes { Closes true (K.sent sink.old) (K.sent sink.new) (stopped status number) result }
+    ensures closes { Closes true (K.sent sink.old) (K.sent sink.new)
+        (stopped status number) result }
     ensures fault { result ≡ Err SendStop.Fault → Rose (K.faults sink.old) (K.faults sink.new) }
     ensures later { K.faults sink.old ≤ K.faults sink.new }
 {

@@ -1,5 +1,7 @@
-ghost use Rattle.std.specs.Prelude.{◌≡◌, ℕ, ◌+◌, ◌<◌, ◌≤◌, ◌⊎◌, List, Option, Some, None, Result, Ok, Err, IfOk, IfErr};
-ghost use Rattle.run_loop.specs.Edges.{Edge, edge, HasCauses};
+//! The loop: a frame is read, answered and sent before the next one is read.
+
+ghost use Rattle.std.specs.Prelude.{◌≡◌, ℕ, ◌<◌, ◌≤◌, Err, IfOk, IfErr};
+ghost use Rattle.run_loop.specs.Edges.{Edge, edge};
 ghost use Rattle.run_loop.specs.Parts.{Replies};
 ghost use Rattle.run_loop.specs.Runs.{Progress, Turned, Halted, Ended};
 ghost use Rattle.run_loop.specs.Sends.{Closes};
@@ -59,9 +61,11 @@ fn turn<P: Part, S: Source, K: Sink>(
 ) -> Result<(), Halt>
     ensures { (first : P) (start : Edge) (count : ℕ) → count < MOST_FRAMES
         → Progress (P.behind first part.old) start
-        (edge (S.rest source.old) (S.faults source.old) (K.sent sink.old) (K.faults sink.old)) count
+        (edge (S.rest source.old) (S.faults source.old) (K.sent sink.old) (K.faults sink.old))
+        count
         → Turned (P.behind first part.new) (P.stops first part.new) start
-        (edge (S.rest source.new) (S.faults source.new) (K.sent sink.new) (K.faults sink.new)) count result }
+        (edge (S.rest source.new) (S.faults source.new) (K.sent sink.new) (K.faults sink.new))
+        count result }
 {
     let mut out = empty_answer(alloc)?;
     let frame = next_frame(alloc, source)?;
@@ -121,7 +125,8 @@ pub fn serve<P: Part, S: Source, K: Sink>(
 ) -> RunEnd
     ensures { Ended (P.behind part.old part.new) (P.stops part.old part.new)
         (edge (S.rest source.old) (S.faults source.old) (K.sent sink.old) (K.faults sink.old))
-        (edge (S.rest source.new) (S.faults source.new) (K.sent sink.new) (K.faults sink.new)) result }
+        (edge (S.rest source.new) (S.faults source.new) (K.sent sink.new) (K.faults sink.new))
+        result }
 {
     let last = handle(alloc, part, source, sink);
     let closing = close(alloc, last, sink);
