@@ -1,6 +1,7 @@
 -- The ranges of messages.
 use Rattle.std.specs.Prelude.{ℕ, ◌≤◌, List, length}
 use Rattle.std.specs.List.{AllPass}
+use Rattle.sgp_der.specs.declared.form.TheConstants.{MOST_CONTENT}
 use Rattle.sgp_values.specs.Eids.{IsEid}
 use Rattle.sgp_values.specs.Ranges.{is_octet}
 use Rattle.small_card.specs.Ranges.{IsNumber, IsRefused, IsResult}
@@ -17,7 +18,7 @@ IsToEim (up.Refused f) = IsRefused f
 
 -- A package is any octets, as many as three length octets say.
 pub record IsCarried (bytes : List ℕ) : Type 0 where
-  pub few : length bytes ≤ 16777215
+  pub few : length bytes ≤ MOST_CONTENT
   pub each : AllPass is_octet bytes
 
 -- A message to the assistant is in range where what it carries is.

@@ -1,5 +1,5 @@
 -- A load is malformed exactly where its octets, not too many, spell no signed package in range.
-use Rattle.std.proofs.Common.{◌≡◌, ◌≢◌, ℕ, ◌≤◌, Bool, true, false, not, cond, List, length, arith, refl, ◌∙◌, sym, ap, Option, None, Some, Result, Ok, Err}
+use Rattle.std.proofs.Common.{◌≡◌, ◌≢◌, ℕ, ◌≤◌, Bool, true, false, not, cond, List, length, arith, refl, ◌∙◌, ap, Option, None, Some, Err}
 use Rattle.std.specs.Prelude.{nat_le, ◌↔◌}
 use Rattle.std.specs.Option.{option_or}
 use Rattle.std.specs.List.{AllPass}

@@ -110,7 +110,13 @@ package_of content = do
   association ← value_at (number_of 1 4294967295) 0x82 eid.1
   counter ← value_at (number_of 1 greatest_counter) 0x83 association.1
   operations ← body_at counter.1
-  Some (record { eim = eim.0; eid = eid.0; association = association.0; counter = counter.0; body = operations })
+  Some (record {
+    eim = eim.0;
+    eid = eid.0;
+    association = association.0;
+    counter = counter.0;
+    body = operations;
+  })
 
 -- the signed package whose fields the content is
 unfoldable pub signed_of : List ℕ → Option Signed

@@ -35,7 +35,8 @@ id_content id = element 0x80 id
 
 -- what stands in an update: the eIM, and its new address and key where they are there
 unfoldable pub update_content : List ℕ → Option (List ℕ) → Option (List ℕ) → List ℕ
-update_content id address key = element 0x80 id ++ optional octets 0x81 address ++ optional octets 0x82 key
+update_content id address key =
+    element 0x80 id ++ optional octets 0x81 address ++ optional octets 0x82 key
 
 -- an operation on eIMs
 unfoldable pub eco : Eco → List ℕ
@@ -51,7 +52,9 @@ body (Ecos ops) = element 0xa5 (flat_map eco ops)
 
 -- what a package is about: its eIM, its card, the association, the counter, and its operations
 unfoldable pub package_fields : Package → List ℕ
-package_fields p = element 0x80 p.eim ++ element 0x81 p.eid ++ element 0x82 (uint p.association) ++ element 0x83 (uint p.counter) ++ body p.body
+package_fields p =
+    element 0x80 p.eim ++ element 0x81 p.eid ++ element 0x82 (uint p.association)
+    ++ element 0x83 (uint p.counter) ++ body p.body
 
 -- a package as one element
 unfoldable pub inner_package : Package → List ℕ

@@ -1,6 +1,7 @@
 ghost use Rattle.std.specs.Prelude.{◌≡◌, ◌≤◌, ◌++◌, length, take, OnOk, OnErr};
 ghost use Rattle.small_card.specs.Ranges.{IsPackage, IsSigned};
-ghost use Rattle.package_codec.specs.Spelling.{package_fields, inner_package, signed_content, signed};
+ghost use Rattle.package_codec.specs.Spelling.{package_fields, inner_package};
+ghost use Rattle.package_codec.specs.Spelling.{signed_content, signed};
 
 use crate::body_writing::{body_len, put_body};
 use crate::tags::{inner, outer};

@@ -1,8 +1,6 @@
 -- Contents that are one number, or that a value is made of.
-use Rattle.std.proofs.Common.{◌≡◌, ℕ, ◌^◌, ◌<◌, ◌≤◌, List, cond, length, Option, Some, None, refl, sym, subst, arith}
+use Rattle.std.proofs.Common.{◌≡◌, ℕ, ◌^◌, ◌<◌, List, cond, Option, Some, refl, sym, subst, arith}
 use Rattle.std.specs.Prelude.{◌==◌}
-use Rattle.sgp_der.specs.Element.{element}
-use Rattle.sgp_der.specs.Number.{uint}
 use Rattle.sgp_der.proofs.Lengths.{IsBytes}
 use Rattle.sgp_der.proofs.Fields.{on_some}
 use Rattle.sgp_der.proofs.Values.{uint_few}

@@ -1,5 +1,5 @@
 -- A mark that is read was spelled so, and one that is spelled is read again.
-use Rattle.std.proofs.Common.{◌≡◌, ℕ, ◌≤◌, Bool, true, false, List, [], ◌∷◌, length, Some, refl, sym, ap, ◌∙◌, arith}
+use Rattle.std.proofs.Common.{◌≡◌, ℕ, ◌≤◌, Bool, true, false, List, [], ◌∷◌, length, Some, refl, ap, ◌∙◌, arith}
 use Rattle.sgp_der.specs.Element.{element, len_octets, IsTag}
 use Rattle.sgp_der.specs.Fields.{only_at}
 use Rattle.sgp_der.proofs.Lengths.{IsBytes}

@@ -79,17 +79,6 @@ pub value_prefix : {X : Type 0} {of : List ℕ → Option X} {spell : X → List
     → IsPrefix (value_at of tag) (λ x. element tag (spell x)) Fits
 value_prefix codec tag low few = record { takes = value_takes codec tag; again = λ x rest fits. value_again codec tag x rest low (few x fits) fits }
 
--- the value of the one field
-pub on_last : {X A P : Type 0} {of : List ℕ → Option X} {spell : X → List ℕ} {Fits : X → Type 0} → IsCodec of spell Fits → (tag : ℕ) (bytes : List ℕ) (f : X → Option A) (y : A) → IsBytes bytes
-    → (last_at of tag bytes >>= f) ≡ Some y → ((x : X) → IsLast spell Fits tag bytes x → f x ≡ Some y → P) → P
-unfolding last_at
-on_last {X} {A} {P} {of} {spell} {Fits} codec tag bytes f y fits e go =
-    on_some (only_at tag bytes >>= λ content. of content) f y e (λ x a e1.
-    on_some (only_at tag bytes) of x a (λ content b a1.
-    let t = only_takes tag bytes content fits b in
-    let v = codec.takes content x t.1 a1 in
-    go x (record { octets = t.0 ∙ ap (element tag) v.0; fits = v.1 }) e1))
-
 pub last_takes : {X : Type 0} {of : List ℕ → Option X} {spell : X → List ℕ} {Fits : X → Type 0} → IsCodec of spell Fits → (tag : ℕ) (bytes : List ℕ) (x : X) → IsBytes bytes → last_at of tag bytes ≡ Some x → IsLast spell Fits tag bytes x
 unfolding last_at
 last_takes {X} {of} codec tag bytes x fits e =
@@ -97,6 +86,11 @@ last_takes {X} {of} codec tag bytes x fits e =
     let t = only_takes tag bytes content fits b in
     let v = codec.takes content x t.1 a1 in
     record { octets = t.0 ∙ ap (element tag) v.0; fits = v.1 })
+
+-- the value of the one field
+pub on_last : {X A P : Type 0} {of : List ℕ → Option X} {spell : X → List ℕ} {Fits : X → Type 0} → IsCodec of spell Fits → (tag : ℕ) (bytes : List ℕ) (f : X → Option A) (y : A) → IsBytes bytes
+    → (last_at of tag bytes >>= f) ≡ Some y → ((x : X) → IsLast spell Fits tag bytes x → f x ≡ Some y → P) → P
+on_last {X} {A} {P} {of} codec tag bytes f y fits e go = on_some (last_at of tag bytes) f y e (λ x a e1. go x (last_takes codec tag bytes x fits a) e1)
 
 pub last_again : {X : Type 0} {of : List ℕ → Option X} {spell : X → List ℕ} {Fits : X → Type 0} → IsCodec of spell Fits → (tag : ℕ) (x : X) → IsTag tag → length (spell x) ≤ 16777215 → Fits x
     → last_at of tag (element tag (spell x)) ≡ Some x

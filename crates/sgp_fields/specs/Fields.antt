@@ -1,5 +1,6 @@
 -- Reading the fields of a record from the left, and how they are spelled.
-use Rattle.std.specs.Prelude.{◌≡◌, ℕ, Bool, true, false, List, [], ◌∷◌, Option, Some, None, Result, Ok, Err}
+use Rattle.std.specs.Prelude.{◌≡◌, ℕ, Bool, true, false, List, [], ◌∷◌}
+use Rattle.std.specs.Prelude.{Option, Some, None, Result, Ok, Err}
 use Rattle.iot_bytes.specs.declared.memory.ReadError.{ReadError}
 use Rattle.iot_bytes.specs.declared.memory.ReadError.TheVariants.{Malformed}
 use Rattle.sgp_der.specs.Element.{element}
@@ -20,14 +21,16 @@ last_at of tag bytes = do
   of content
 
 -- the value of a field that was found, or none where it is left out
-abbrev pub found_or_out : {X : Type 0} → (List ℕ → Option X) → List ℕ → Option Part → Option (Option X × List ℕ)
+abbrev pub found_or_out : {X : Type 0} → (List ℕ → Option X) → List ℕ → Option Part
+    → Option (Option X × List ℕ)
 found_or_out of bytes None = Some (None, bytes)
 found_or_out of bytes (Some p) = do
   x ← of p.content
   Some (Some x, p.rest)
 
 -- the value of a field that may be left out, and what follows
-unfoldable pub optional_at : {X : Type 0} → (List ℕ → Option X) → ℕ → List ℕ → Option (Option X × List ℕ)
+unfoldable pub optional_at : {X : Type 0} → (List ℕ → Option X) → ℕ → List ℕ
+    → Option (Option X × List ℕ)
 optional_at of tag bytes = found_or_out of bytes (field_at tag bytes)
 
 -- whether the mark of this tag is all that is left, and not nothing
@@ -53,7 +56,8 @@ mark tag true = element tag []
 mark tag false = []
 
 -- what a reader took off the front, and what it left; at a fault it took nothing
-abbrev pub Takes : {X : Type 0} → Result X ReadError → Option (X × List ℕ) → List ℕ → List ℕ → Type 0
+abbrev pub Takes : {X : Type 0} → Result X ReadError → Option (X × List ℕ) → List ℕ → List ℕ
+    → Type 0
 Takes (Ok x) read old new = read ≡ Some (x, new)
 Takes (Err e) read old new = (e ≡ Malformed) × (new ≡ old) × (read ≡ None)
 

@@ -9,7 +9,8 @@ AreOctets bytes = AllPass is_octet bytes
 
 -- octets that are read as a value are its spelling, and the value is in range
 abbrev pub ReadsSpelled : {X : Type 0} → (List ℕ → Option X) → (X → List ℕ) → (X → Type 0) → Type 0
-ReadsSpelled {X} read spell Fits = (bytes : List ℕ) (x : X) → AreOctets bytes → read bytes ≡ Some x → Fits x × (bytes ≡ spell x)
+ReadsSpelled {X} read spell Fits =
+    (bytes : List ℕ) (x : X) → AreOctets bytes → read bytes ≡ Some x → Fits x × (bytes ≡ spell x)
 
 -- a value in range is read again from its spelling
 abbrev pub ReadAgain : {X : Type 0} → (List ℕ → Option X) → (X → List ℕ) → (X → Type 0) → Type 0
@@ -17,7 +18,8 @@ ReadAgain {X} read spell Fits = (x : X) → Fits x → read (spell x) ≡ Some x
 
 -- one spelling is of one value, and no spelling is a proper prefix of another
 abbrev pub OneSpelling : {X : Type 0} → (X → List ℕ) → (X → Type 0) → Type 0
-OneSpelling {X} spell Fits = (a b : X) (x y : List ℕ) → Fits a → Fits b → spell a ++ x ≡ spell b ++ y → (a ≡ b) × (x ≡ y)
+OneSpelling {X} spell Fits =
+    (a b : X) (x y : List ℕ) → Fits a → Fits b → spell a ++ x ≡ spell b ++ y → (a ≡ b) × (x ≡ y)
 
 -- no value in range is spelled so
 abbrev pub SpellsNone : {X : Type 0} → (X → List ℕ) → (X → Type 0) → List ℕ → Type 0

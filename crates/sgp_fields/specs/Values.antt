@@ -1,5 +1,6 @@
 -- The values that a field's content may be.
-use Rattle.std.specs.Prelude.{ℕ, ◌==◌, ◌&&◌, nat_le, Bool, true, false, List, Option, Some, None, if◌then◌else◌}
+use Rattle.std.specs.Prelude.{Bool, true, false}
+use Rattle.std.specs.Prelude.{ℕ, ◌==◌, ◌&&◌, nat_le, List, Option, Some, None, if◌then◌else◌}
 use Rattle.sgp_der.specs.Fields.{◌>>=◌, ended}
 use Rattle.sgp_der.specs.Number.{uint, uint_of}
 

@@ -1,5 +1,5 @@
-//! The configuration of an eIM (SGP.32, EimConfigurationData): one production, for the packages that
-//! add an eIM and for the first one that a card is given.
+//! The configuration of an eIM (SGP.32, EimConfigurationData): one production, for the packages
+//! that add an eIM and for the first one that a card is given.
 
 ghost use Rattle.std.specs.Prelude.{◌≡◌, ◌≤◌, ◌++◌, length, take, OnOk, OnErr};
 ghost use Rattle.sgp_fields.specs.Fields.{Finds};

@@ -1,8 +1,9 @@
 //! Reading the fields of a record, one call a field.
 
-ghost use Rattle.std.specs.Prelude.{◌≡◌, ◌≤◌, ℕ, List, Some, None, IfOk, MatchOption, MatchResult};
+ghost use Rattle.std.specs.Prelude.{◌≡◌, ◌≤◌, ℕ, List, Some, None, IfOk, MatchResult};
 ghost use Rattle.sgp_der.specs.Fields.{ended, field_at, only_at};
-ghost use Rattle.sgp_fields.specs.Fields.{Finds, Takes, last_at, last_mark_at, optional_at, value_at};
+ghost use Rattle.sgp_fields.specs.Fields.{Finds, Takes};
+ghost use Rattle.sgp_fields.specs.Fields.{last_at, last_mark_at, optional_at, value_at};
 ghost use Rattle.sgp_fields.specs.Values.{number_of};
 
 use crate::values::{Content, bounded};
@@ -62,7 +63,8 @@ impl<'a> Fields<'a> {
     /// The number from the least to the greatest in the field of this tag.
     #[tactic(auto, unfolding(crate::specs::Fields::value_at))]
     pub fn number(&mut self, tag: u8, least: u64, greatest: u64) -> Result<u64, ReadError>
-        ensures value { Takes result (value_at (number_of least greatest) tag self.old) self.old self.new }
+        ensures value { Takes result (value_at (number_of least greatest) tag self.old)
+            self.old self.new }
         ensures range { IfOk result (λ n. (least ≤ n) × (n ≤ greatest)) }
     {
         let found = field(self.rest, tag).ok_or(ReadError::Malformed)?;
@@ -73,7 +75,11 @@ impl<'a> Fields<'a> {
 
     /// The content of the field of this tag.
     pub fn content(&mut self, tag: u8) -> Result<&'a [u8], ReadError>
-        ensures { MatchResult result (λ x. field_at tag self.old ≡ Some (record { tag = tag; content = x.now; rest = self.new })) (λ e. (e ≡ ReadError.Malformed) × (self.new ≡ self.old) × (field_at tag self.old ≡ None)) }
+        ensures { MatchResult result
+            (λ x. field_at tag self.old
+            ≡ Some (record { tag = tag; content = x.now; rest = self.new }))
+            (λ e. (e ≡ ReadError.Malformed) × (self.new ≡ self.old)
+            × (field_at tag self.old ≡ None)) }
     {
         let found = field(self.rest, tag).ok_or(ReadError::Malformed)?;
         self.rest = found.rest;
@@ -101,7 +107,8 @@ impl<'a> Fields<'a> {
 
     /// The content of the field of this tag, which is the last.
     pub fn last_content(self, tag: u8) -> Result<&'a [u8], ReadError>
-        ensures { MatchResult result (λ x. only_at tag self.entry ≡ Some x.now) (λ e. (e ≡ ReadError.Malformed) × (only_at tag self.entry ≡ None)) }
+        ensures { MatchResult result (λ x. only_at tag self.entry ≡ Some x.now)
+            (λ e. (e ≡ ReadError.Malformed) × (only_at tag self.entry ≡ None)) }
     {
         only(self.rest, tag).ok_or(ReadError::Malformed)
     }
@@ -138,40 +145,5 @@ impl<'a> Fields<'a> {
         ensures { result.now ≡ self.entry }
     {
         self.rest
-    }
-}
-
-/// The value of the field of this tag at the front, and what follows; `None` where there is no
-/// such field or value.
-#[tactic(auto, unfolding(crate::specs::Fields::value_at))]
-pub fn value<T: Content>(bytes: &[u8], tag: u8) -> Option<(T, &[u8])>
-    ensures { MatchOption result (value_at T.content_of tag bytes.now ≡ None) (λ r. value_at T.content_of tag bytes.now ≡ Some (r.0, r.1.now)) }
-{
-    let found = field(bytes, tag)?;
-    let x = T::of_content(found.content)?;
-    Some((x, found.rest))
-}
-
-/// The value of the one field of this tag that the bytes are.
-#[tactic(auto, unfolding(crate::specs::Fields::last_at))]
-pub fn last<T: Content>(bytes: &[u8], tag: u8) -> Option<T>
-    ensures { result ≡ last_at T.content_of tag bytes.now }
-{
-    let content = only(bytes, tag)?;
-    T::of_content(content)
-}
-
-/// The value of a field of this tag that may be left out, and what follows; `None` where the field
-/// is there and has no such value.
-#[tactic(auto, unfolding(crate::specs::Fields::optional_at))]
-pub fn optional<T: Content>(bytes: &[u8], tag: u8) -> Option<(Option<T>, &[u8])>
-    ensures { MatchOption result (optional_at T.content_of tag bytes.now ≡ None) (λ r. optional_at T.content_of tag bytes.now ≡ Some (r.0, r.1.now)) }
-{
-    match field(bytes, tag) {
-        None => Some((None, bytes)),
-        Some(found) => {
-            let x = T::of_content(found.content)?;
-            Some((Some(x), found.rest))
-        }
     }
 }

@@ -8,22 +8,23 @@ ghost use Rattle.sgp_fields.specs.Fields.{mark, optional};
 ghost use Rattle.sgp_fields.specs.Values.{flag_content};
 
 use crate::values::Octets;
-use sgp_der::{head_len, uint_len};
+use sgp_der::{MOST_CONTENT, MOST_HEAD, MOST_UINT, head_len, uint_len};
 
 /// How many octets an element has whose content has so many.
 pub fn element_len(content: usize) -> usize
-    requires { content ≤ 16777215 }
-    ensures len { (tag : ℕ) (octets : List ℕ) → length octets ≡ content → result ≡ length (element tag octets) }
-    ensures few { result ≤ content + 5 }
+    requires { content ≤ MOST_CONTENT }
+    ensures len { (tag : ℕ) (octets : List ℕ) → length octets ≡ content
+        → result ≡ length (element tag octets) }
+    ensures few { result ≤ content + MOST_HEAD }
 {
     head_len(content) + content
 }
 
 /// How many octets the field of a content has.
 pub fn field_len(content: &[u8]) -> usize
-    requires { length content.now ≤ 16777215 }
+    requires { length content.now ≤ MOST_CONTENT }
     ensures len { (tag : ℕ) → length (element tag content.now) ≡ result }
-    ensures few { result ≤ length content.now + 5 }
+    ensures few { result ≤ length content.now + MOST_HEAD }
 {
     element_len(content.len())
 }
@@ -31,7 +32,7 @@ pub fn field_len(content: &[u8]) -> usize
 /// How many octets the field of an integer has.
 pub fn number_len(n: u64) -> usize
     ensures len { (tag : ℕ) → length (element tag (uint n)) ≡ result }
-    ensures few { result ≤ 14 }
+    ensures few { result ≤ MOST_UINT + MOST_HEAD }
 {
     element_len(uint_len(n))
 }
@@ -40,7 +41,7 @@ pub fn number_len(n: u64) -> usize
 #[tactic(auto, unfolding(crate::specs::Values::flag_content))]
 pub fn flag_len(flag: bool) -> usize
     ensures len { (tag : ℕ) → length (element tag (flag_content flag)) ≡ result }
-    ensures few { result ≤ 14 }
+    ensures few { result ≤ MOST_UINT + MOST_HEAD }
 {
     if flag { number_len(1) } else { number_len(0) }
 }
@@ -48,7 +49,7 @@ pub fn flag_len(flag: bool) -> usize
 /// How many octets a mark has.
 pub fn mark_len(set: bool) -> usize
     ensures len { (tag : ℕ) → length (mark tag set) ≡ result }
-    ensures few { result ≤ 5 }
+    ensures few { result ≤ MOST_HEAD }
 {
     if set { field_len(&[]) } else { 0 }
 }

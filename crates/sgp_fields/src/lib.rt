@@ -16,10 +16,10 @@ mod writing;
 
 pub use alone::{number_alone, number_alone_len, put_number_alone, when_empty};
 pub use config::{EimConfig, config_len, put_config, read_config};
-pub use fields::{Fields, last, optional, value};
+pub use fields::Fields;
 pub use lengths::{element_len, field_len, flag_len, mark_len, number_len, optional_len};
 pub use lists::{Listed, list, whole};
-pub use values::{Content, Octets, last_number, number};
+pub use values::{Content, Octets};
 pub use writing::{
     Written, list_len, put_flag, put_list, put_mark, put_optional, write, write_list,
 };

@@ -18,7 +18,8 @@ pub trait Listed<T> {
 }
 
 fn part(bytes: &[u8]) -> Option<Tlv<'_>>
-    ensures { MatchOption result (part_at bytes.now ≡ None) (λ t. part_at bytes.now ≡ Some (record { tag = t.tag; content = t.content.now; rest = t.rest.now })) }
+    ensures { MatchOption result (part_at bytes.now ≡ None) (λ t. part_at bytes.now
+        ≡ Some (record { tag = t.tag; content = t.content.now; rest = t.rest.now })) }
 {
     next(bytes).ok()
 }

@@ -22,32 +22,25 @@ fn fields_in_order(rt: HostRuntime) -> Result<(), Fail> {
     let alloc = rt.alloc();
     let mut out = Row::new(alloc);
     put_flag(&mut out, 0x80, true)?;
-    put_flag(&mut out, 0x81, false)?;
-    out.append(&[0x83, 0x01, b'e'])?;
-    out.append(&[0x84, 0x02, 0x01, 0x00])?;
-    let bytes = out.as_slice();
-    let Some((first, rest)) = value::<bool>(bytes, 0x80) else {
-        return Err("a flag was expected".into());
-    };
-    let Some((second, rest)) = value::<bool>(rest, 0x81) else {
-        return Err("a flag was expected".into());
-    };
-    let Some((left_out, rest)) = optional::<EimId>(rest, 0x82) else {
-        return Err("a field left out was expected".into());
-    };
-    let Some((there, rest)) = optional::<EimId>(rest, 0x83) else {
-        return Err("an identifier was expected".into());
-    };
-    assert!(rt; first && !second && left_out.is_none());
-    assert_eq!(rt; there, EimId::of(b"e").ok());
-    let Some((n, _)) = number(rest, 0x84, 1, 256) else {
-        return Err("a number was expected".into());
-    };
-    assert_eq!(rt; n, 256);
-    assert_eq!(rt; last_number(rest, 0x84, 1, 255), None);
-    assert_eq!(rt; last::<Key>(rest, 0x84), Key::of(&[1, 0]).ok());
-    assert!(rt; value::<bool>(rest, 0x84).is_none());
-    assert_eq!(rt; element_len(128), 131);
+    put_optional::<Key>(&mut out, 0x81, &None)?;
+    put_optional(&mut out, 0x82, &EimId::of(b"e").ok())?;
+    out.append(&[0x83, 0x02, 0x01, 0x00])?;
+    put_mark(&mut out, 0x84, true)?;
+    assert_eq!(rt;
+        out.as_slice(),
+        [128, 1, 1, 130, 1, 101, 131, 2, 1, 0, 132, 0].as_slice()
+    );
+    let mut fields = Fields::of(out.as_slice());
+    assert_eq!(rt; fields.value::<bool>(0x81).is_err(), true);
+    assert_eq!(rt; fields.value::<bool>(0x80).ok(), Some(true));
+    assert!(rt; matches!(fields.optional::<Key>(0x81), Ok(None)));
+    assert_eq!(rt;
+        fields.optional::<EimId>(0x82).ok(),
+        Some(EimId::of(b"e").ok())
+    );
+    assert_eq!(rt; fields.number(0x83, 1, 255).is_err(), true);
+    assert_eq!(rt; fields.number(0x83, 1, 256).ok(), Some(256));
+    assert_eq!(rt; fields.last_mark(0x84).ok(), Some(true));
     Ok(())
 }
 

@@ -1,8 +1,7 @@
-ghost use Rattle.std.specs.Prelude.{◌≡◌, ◌≤◌, ℕ, List, Option, Some, None, IfSome, MatchOption, length};
+ghost use Rattle.std.specs.Prelude.{◌≡◌, ◌≤◌, ℕ, List, Option, Some, None, IfSome, length};
 ghost use Rattle.sgp_fields.specs.Values.{flag_of, number_of};
-ghost use Rattle.sgp_fields.specs.Fields.{value_at, last_at};
 
-use sgp_der::{field, only, uint};
+use sgp_der::uint;
 use sgp_values::{Address, Eid, EimId, Iccid, Key, Nickname};
 
 /// A value that a field's content may be.
@@ -154,26 +153,4 @@ pub(crate) fn bounded(content: &[u8], least: u64, greatest: u64) -> Option<u64>
     } else {
         None
     }
-}
-
-/// The number from the least to the greatest in the field of this tag at the front, and what
-/// follows; `None` where there is no such field or number.
-#[tactic(auto, unfolding(crate::specs::Fields::value_at))]
-pub fn number(bytes: &[u8], tag: u8, least: u64, greatest: u64) -> Option<(u64, &[u8])>
-    ensures value { MatchOption result (value_at (number_of least greatest) tag bytes.now ≡ None) (λ r. value_at (number_of least greatest) tag bytes.now ≡ Some (r.0, r.1.now)) }
-    ensures range { IfSome result (λ r. (least ≤ r.0) × (r.0 ≤ greatest)) }
-{
-    let found = field(bytes, tag)?;
-    let n = bounded(found.content, least, greatest)?;
-    Some((n, found.rest))
-}
-
-/// The number from the least to the greatest in the one field of this tag that the bytes are.
-#[tactic(auto, unfolding(crate::specs::Fields::last_at))]
-pub fn last_number(bytes: &[u8], tag: u8, least: u64, greatest: u64) -> Option<u64>
-    ensures value { result ≡ last_at (number_of least greatest) tag bytes.now }
-    ensures range { IfSome result (λ n. (least ≤ n) × (n ≤ greatest)) }
-{
-    let content = only(bytes, tag)?;
-    bounded(content, least, greatest)
 }

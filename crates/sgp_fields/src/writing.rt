@@ -7,7 +7,7 @@ ghost use Rattle.sgp_fields.specs.Values.{flag_content};
 
 use crate::values::Octets;
 use iot_bytes::{NoMemory, Row};
-use sgp_der::{put_octets, put_uint};
+use sgp_der::{MOST_CONTENT, put_octets, put_uint};
 
 /// Appends the element of this tag whose content is the flag, or nothing where memory runs out.
 #[tactic(auto, unfolding(crate::specs::Values::flag_content))]
@@ -86,7 +86,7 @@ pub fn write<T, W: Written<T>>(out: &mut Row<u8>, x: &T) -> Result<(), NoMemory>
 /// How many octets a list has whose entries stand one behind the other.
 pub fn list_len<T, W: Written<T>>(rows: &[T]) -> usize
     requires each { Every W.Fits rows.now }
-    requires few { length rows.now * W.most ≤ 16777215 }
+    requires few { length rows.now * W.most ≤ MOST_CONTENT }
     ensures len { result ≡ length (flat_map W.spelled rows.now) }
     ensures few { result ≤ length rows.now * W.most }
 {
