@@ -46,24 +46,24 @@ body_taken tag content b fits e =
     on_tag tag 0xa4 content _ _ b e (psmos_taken content b fits) (λ e1.
     on_tag tag 0xa5 content _ _ b e1 (ecos_taken content b fits) (λ none. absurd cc))
 
-psmos_again : (ops : List Psmo) → IsBody (Psmos ops) → psmos_of (flat_map psmo ops) ≡ Some (Psmos ops)
+pub psmos_again : (ops : List Psmo) → IsBody (Psmos ops) → psmos_of (flat_map psmo ops) ≡ Some (Psmos ops)
 unfolding psmos_of IsBody
 psmos_again ops fits =
     let again = (list_codec psmo_listed 8).again ops (record { few = fits.0.few; each = fits.1 }) in
     rw again (rw (some_again ops fits.0.some) refl)
 
-ecos_again : (ops : List Eco) → IsBody (Ecos ops) → ecos_of (flat_map eco ops) ≡ Some (Ecos ops)
+pub ecos_again : (ops : List Eco) → IsBody (Ecos ops) → ecos_of (flat_map eco ops) ≡ Some (Ecos ops)
 unfolding ecos_of IsBody
 ecos_again ops fits =
     let again = (list_codec eco_listed 8).again ops (record { few = fits.0.few; each = fits.1 }) in
     rw again (rw (some_again ops fits.0.some) refl)
 
 -- at most eight operations of at most 397 octets
-psmos_few : (ops : List Psmo) → IsBody (Psmos ops) → length (flat_map psmo ops) ≤ 240
+pub psmos_few : (ops : List Psmo) → IsBody (Psmos ops) → length (flat_map psmo ops) ≤ 240
 unfolding IsBody
 psmos_few ops fits = omega (arith, flat_few psmo IsPsmo 30 psmo_few ops fits.1, fits.0.few)
 
-ecos_few : (ops : List Eco) → IsBody (Ecos ops) → length (flat_map eco ops) ≤ 3176
+pub ecos_few : (ops : List Eco) → IsBody (Ecos ops) → length (flat_map eco ops) ≤ 3176
 unfolding IsBody
 ecos_few ops fits = omega (arith, flat_few eco IsEco 397 eco_few ops fits.1, fits.0.few)
 

@@ -128,7 +128,7 @@ impl Listed<Eco> for EcoEntry {
 }
 
 /// The operations as one element, whose tag says the kind.
-pub(crate) struct BodyEntry;
+pub struct BodyEntry;
 
 #[tactic(auto, unfolding(crate::specs::Reading::psmos_of))]
 fn psmos(alloc: Global, content: &[u8]) -> Result<Body, ReadError>

@@ -10,6 +10,7 @@ mod replies;
 mod tags;
 mod writing;
 
+pub use body::BodyEntry;
 pub use laws::{
     bodies_are_read_back, bodies_have_one_spelling, packages_are_read_back, packages_are_short,
     packages_have_one_spelling,
