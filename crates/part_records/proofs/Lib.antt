@@ -1,0 +1,3 @@
+pub mod EimInputs
+pub mod IpaInputs
+pub mod Outputs
