@@ -1,7 +1,5 @@
 -- An answer that is read was spelled so, and one that is spelled is read again.
 use Rattle.std.proofs.Common.{◌≡◌, ℕ, ◌+◌, ◌≤◌, List, [], ◌++◌, length, Some, refl, ap, arith, length-append}
-use Rattle.std.specs.Prelude.{◌==◌}
-use Rattle.sgp_der.specs.Element.{element}
 use Rattle.sgp_der.proofs.Lengths.{IsBytes}
 use Rattle.sgp_der.proofs.Elements.{element_few}
 use Rattle.sgp_fields.specs.Alone.{number_alone, number_alone_of}

@@ -1,6 +1,5 @@
 -- A command that is read was spelled so, and one that is spelled is read again.
-use Rattle.std.proofs.Common.{◌≡◌, ℕ, ◌≤◌, Bool, List, [], ◌++◌, length, Some, refl, ap, subst, ◌∙◌, arith, length-append}
-use Rattle.std.specs.Prelude.{◌==◌}
+use Rattle.std.proofs.Common.{◌≡◌, ℕ, ◌≤◌, Bool, List, [], ◌++◌, length, Some, refl, ap, subst, arith, length-append}
 use Rattle.sgp_der.specs.Element.{element}
 use Rattle.sgp_der.proofs.Lengths.{IsBytes}
 use Rattle.sgp_der.proofs.Fields.{on_some, only_again}
@@ -9,7 +8,6 @@ use Rattle.sgp_values.specs.Eids.{IsEid}
 use Rattle.sgp_fields.specs.Values.{flag_content}
 use Rattle.sgp_fields.specs.Alone.{number_alone}
 use Rattle.sgp_fields.specs.Config.{config_content, IsConfig}
-use Rattle.sgp_fields.specs.declared.config.EimConfig.{EimConfig}
 use Rattle.sgp_fields.proofs.Codecs.{IsCodec, IsListed, IsSpelled, IsTaken}
 use Rattle.sgp_fields.proofs.Elements.{on_tag, whole_codec, short_from_bytes}
 use Rattle.sgp_fields.proofs.AloneCodec.{card_number_alone_codec, on_made, made_again}

@@ -1,6 +1,5 @@
 -- An eIM list that is read was spelled so, and one that is spelled is read again.
 use Rattle.std.proofs.Common.{◌≡◌, ℕ, ◌≤◌, List, ◌++◌, length, Some, refl, ap, subst, ◌∙◌, arith, append_assoc, length-append}
-use Rattle.std.specs.Prelude.{◌==◌}
 use Rattle.std.specs.List.{flat_map}
 use Rattle.sgp_der.specs.Element.{element}
 use Rattle.sgp_der.specs.Number.{uint}

@@ -1,17 +1,14 @@
 -- A refusal that is read was spelled so, and one that is spelled is read again.
-use Rattle.std.proofs.Common.{◌≡◌, ◌≢◌, ℕ, ◌≤◌, true, List, ◌++◌, length, Option, Some, None, Result, Ok, Err, refl, sym, ap, subst, ◌∙◌, arith, inl, inr, append_assoc, length-append}
-use Rattle.std.specs.Prelude.{◌==◌, ◌&&◌, IfOk, IsErrOf}
+use Rattle.std.proofs.Common.{◌≡◌, ◌≢◌, ℕ, ◌≤◌, true, List, ◌++◌, length, Some, ap, subst, ◌∙◌, arith, inl, inr, append_assoc, length-append}
+use Rattle.std.specs.Prelude.{◌==◌, ◌&&◌}
 use Rattle.std.proofs.lemmas.Bool.{eqb-true, eq-eqb, or_cases, and_parts, and_from, or_left, or_right, cases_eq}
-use Rattle.iot_bytes.specs.declared.memory.ReadError.{ReadError}
-use Rattle.iot_bytes.specs.declared.memory.ReadError.TheVariants.{Malformed}
 use Rattle.sgp_der.specs.Element.{element}
 use Rattle.sgp_der.specs.Number.{uint}
 use Rattle.sgp_der.proofs.Lengths.{IsBytes}
 use Rattle.sgp_der.proofs.Fields.{guard_some}
 use Rattle.sgp_fields.specs.Values.{number_of}
-use Rattle.sgp_fields.specs.Fields.{Finds}
 use Rattle.sgp_fields.proofs.Codecs.{IsCodec, IsValue, IsLast}
-use Rattle.sgp_fields.proofs.Steps.{some_is, on_value, on_last, value_again, last_again, only_if_again}
+use Rattle.sgp_fields.proofs.Steps.{on_value, on_last, value_again, last_again, only_if_again}
 use Rattle.sgp_fields.proofs.ValueCodecs.{IsIn, number_codec}
 use Rattle.sgp_fields.proofs.Numbers.{up_to_codec, IsUpTo}
 use Rattle.sgp_fields.proofs.Sizes.{short, code_few, counter_few}

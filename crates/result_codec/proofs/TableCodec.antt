@@ -1,6 +1,5 @@
 -- A table of profiles that is read was spelled so, and one that is spelled is read again.
 use Rattle.std.proofs.Common.{◌≡◌, ℕ, ◌≤◌, Bool, true, false, List, ◌++◌, length, Some, refl, sym, ap, subst, ◌∙◌, arith, append_assoc, length-append}
-use Rattle.std.specs.Prelude.{◌==◌}
 use Rattle.std.specs.List.{flat_map}
 use Rattle.sgp_der.specs.Element.{element}
 use Rattle.sgp_der.proofs.Lengths.{IsBytes}
