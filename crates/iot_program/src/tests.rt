@@ -219,7 +219,7 @@ fn put_listed(out: &mut Row<u8>, alloc: Global, number: u8) -> Result<(), Fail> 
     put(
         out,
         alloc,
-        "a415a3133011800a98440000000000000001810101 8200",
+        "a415a3133011800a98440000000000000001810100 8200",
     )
 }
 
@@ -378,8 +378,6 @@ fn the_limit_on_frames(rt: HostRuntime) -> Result<(), Fail> {
     for (more, status, last) in [
         ("", 0, ""),
         ("00000001 ff", 7, "0000000a ad08 800107 81030186a1"),
-        ("00", 5, "0000000a ad08 800105 81030186a1"),
-        ("00040001", 7, "0000000a ad08 800107 81030186a1"),
     ] {
         let mut input = input.copy(alloc)?;
         put(&mut input, alloc, more)?;
