@@ -20,7 +20,7 @@ put_apart b c octets h apart len le = elim (cases_order b c) [
 ]
 
 -- a number that isn't listed
-others_back : (n block : ℕ) (blocks old h : List ℕ) → From n blocks → (Has block blocks → ⊥) → length h ≡ 172288 → 256 * length blocks ≤ length old → block_of (put_back blocks old h) block ≡ block_of h block
+pub others_back : (n block : ℕ) (blocks old h : List ℕ) → From n blocks → (Has block blocks → ⊥) → length h ≡ 172288 → 256 * length blocks ≤ length old → block_of (put_back blocks old h) block ≡ block_of h block
 others_back n block [] old h f apart size room = refl
 others_back n block (c ∷ cs) old h f apart size room =
     let len : length (take 256 old) ≡ 256 = length_front 256 old (omega (arith, room)) in

@@ -1,0 +1,11 @@
+pub mod Blocks
+pub mod Cards
+pub mod Looking
+pub mod Trying
+pub mod Loads
+pub mod Making
+pub mod Compared
+pub mod Fronts
+pub mod Seating
+pub mod Readying
+pub mod Holding

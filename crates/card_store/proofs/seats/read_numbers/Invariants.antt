@@ -1,0 +1,15 @@
+use Rattle.std.proofs.Common.{◌≡◌, ◌≤◌}
+use Rattle.chip_port.specs.Rules.{IfTold, Takes}
+use Rattle.card_store.specs.Looking.{Looks}
+use Rattle.card_store.proofs.seats.read_numbers.Given as goal
+
+abbrev pub invariant-loop-slot : goal.invariant-loop-slot
+invariant-loop-slot g l =
+    let s0 = g.C.Chip.sees l.fn.chip in
+    let s = g.C.Chip.sees l.chip in
+    record {
+      told : s.told ≡ s0.told;
+      later : s0.faults ≤ s.faults;
+      spare : Takes 0 0 s0 s;
+      looks : IfTold s0 (Looks l.slot s0 s);
+    }

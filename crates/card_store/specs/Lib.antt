@@ -1,0 +1,10 @@
+pub mod Standing
+pub mod Holding
+pub mod Changed
+pub mod Looking
+pub mod Loading
+pub mod Formatting
+pub mod Staging
+pub mod Planned
+pub mod Comparing
+pub mod Seats
