@@ -1,5 +1,5 @@
 -- What a queue in code keeps, and which eIM it stands for.
-use Rattle.std.specs.Prelude.{◌≡◌, ◌≤◌, ℕ, ◌==◌, ◌&&◌, not, max, if◌then◌else◌, List, map, filter, IfSome, Option}
+use Rattle.std.specs.Prelude.{◌≡◌, ◌≤◌, ℕ, ◌==◌, ◌&&◌, not, max, if◌then◌else◌, List, length, map, filter, IfSome, Option}
 use Rattle.small_card.specs.Lists.{Every}
 use Rattle.small_card.specs.Ranges.{IsSigned, IsNumber, greatest_counter}
 use Rattle.small_card.specs.declared.types.PackageResult.{PackageResult}
@@ -10,6 +10,8 @@ use Rattle.esipa_codec.specs.declared.ends.OrderEnd.{OrderEnd}
 use Rattle.esipa_codec.specs.declared.ends.OrderEnd.TheVariants.{Ordered as GotCounter, Unbound, CounterSpent, NoMemory as NoRoom}
 use Rattle.esipa_codec.specs.declared.ends.MessageEnd.{MessageEnd}
 use Rattle.esipa_codec.specs.declared.ends.MessageEnd.TheVariants.{Reply, Silent, NoMemory}
+use Rattle.esipa_codec.specs.Ranges.{IsToIpa}
+use Rattle.esipa_codec.specs.Spelling.{to_ipa}
 use Rattle.eim_queue.specs.Records.{AreRecords}
 use Rattle.eim_queue.specs.declared.orders.Order.{Order}
 use Rattle.eim_queue.specs.declared.queue.Eim.TheInside.{Inside}
@@ -75,3 +77,9 @@ settled association counter o = record o {
 unfoldable pub greatest_with : ℕ → ℕ → Order → ℕ
 greatest_with so_far association o =
     if o.signed.«package».association == association then max so_far o.signed.«package».counter else so_far
+
+-- a message to the assistant, if there is one, is in range; it has at most 3,489 octets
+abbrev pub IsSendable : MessageEnd → Type 0
+IsSendable (Reply m) = IsToIpa m × (length (to_ipa m) ≤ 3489)
+IsSendable Silent = Unit {0}
+IsSendable NoMemory = Unit {0}

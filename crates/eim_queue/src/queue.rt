@@ -1,12 +1,15 @@
-ghost use Rattle.std.specs.Prelude.{◌≡◌, ◌≤◌, ◌-◌, Some, false};
+ghost use Rattle.std.specs.Prelude.{◌≡◌, ◌≤◌, ◌-◌, length, Some, false};
+ghost use Rattle.std.specs.List.{AllPass};
+ghost use Rattle.sgp_values.specs.Ranges.{is_octet};
 ghost use Rattle.small_card.specs.Lists.{same};
 ghost use Rattle.small_card.specs.Ranges.{IsBody, IsNumber, IsSigned, greatest_counter};
 ghost use Rattle.esipa_codec.specs.Eims.{EimState, bind_end, bound_to, heard, last_of, message_end, new_eim, order_end, ordered, package_of, skip_end, skipped};
 ghost use Rattle.esipa_codec.specs.Records.{records_of};
 ghost use Rattle.esipa_codec.specs.declared.messages.ToEim.TheVariants as to_eim;
 ghost use Rattle.esipa_codec.specs.declared.messages.ToIpa.TheVariants as to_ipa;
+ghost use Rattle.esipa_codec.specs.Ranges.{IsToEim};
 ghost use Rattle.package_codec.specs.Spelling.{signed};
-ghost use Rattle.eim_queue.specs.Queues.{IfOrdered, IfServed, IsEim};
+ghost use Rattle.eim_queue.specs.Queues.{IfOrdered, IfServed, IsEim, IsSendable};
 
 use crate::orders::{Order, first_waiting, give_up, greatest_used, push_order, settle};
 use crate::records::{is_known, receive};
@@ -148,6 +151,8 @@ impl Eim {
         ensures end { (e : EimState) → IsEim self.old e → IfServed result (result ≡ message_end message e) }
         ensures stands { (e : EimState) → IsEim self.old e → IfServed result (IsEim self.new (heard message e)) }
         ensures no_memory { result ≡ MessageEnd.NoMemory → self.new ≡ self.old }
+        // What is sent is in range, and short.
+        ensures range { IsToEim message → IsSendable result }
     {
         match message {
             ToEim::Poll { eid } => self.on_poll(alloc, &eid),
@@ -161,7 +166,8 @@ impl Eim {
 
     /// A poll for this card fetches the package of the first order that waits.
     fn on_poll(&self, alloc: Global, eid: &Eid) -> MessageEnd
-        ensures { (e : EimState) → IsEim self.now e → IfServed result (result ≡ message_end (to_eim.Poll eid.now) e) }
+        ensures end { (e : EimState) → IsEim self.now e → IfServed result (result ≡ message_end (to_eim.Poll eid.now) e) }
+        ensures range { IsSendable result }
     {
         if !is_same_card(eid, &self.eid) {
             return MessageEnd::Reply(ToIpa::Nothing);
@@ -177,6 +183,7 @@ impl Eim {
         ensures end { (e : EimState) → IsEim self.old e → IfServed result (result ≡ message_end (to_eim.Result item) e) }
         ensures stands { (e : EimState) → IsEim self.old e → IfServed result (IsEim self.new (heard (to_eim.Result item) e)) }
         ensures no_memory { result ≡ MessageEnd.NoMemory → self.new ≡ self.old }
+        ensures range { IsNumber item.seq → IsSendable result }
     {
         if !is_same_eim(&item.eim, &self.id) {
             return MessageEnd::Silent;
@@ -218,14 +225,31 @@ fn is_same_card(one: &Eid, other: &Eid) -> bool
     one == other
 }
 
+// What octets are: nothing is done.
+fn told(octets: &[u8]) -> bool
+    ensures { AllPass is_octet octets.now }
+{
+    octets.is_empty()
+}
+
+// These octets as a package.
+fn carried(bytes: Row<u8>) -> MessageEnd
+    ensures end { result ≡ MessageEnd.Reply (to_ipa.Package bytes) }
+    ensures range { length bytes ≤ 3485 → IsSendable result }
+{
+    told(bytes.as_slice());
+    MessageEnd::Reply(ToIpa::Package(bytes))
+}
+
 /// The octets of a package.
 fn spelled(alloc: Global, package: &Signed) -> MessageEnd
     requires { IsSigned «package».now }
-    ensures { IfServed result (result ≡ MessageEnd.Reply (to_ipa.Package (signed «package».now))) }
+    ensures end { IfServed result (result ≡ MessageEnd.Reply (to_ipa.Package (signed «package».now))) }
+    ensures range { IsSendable result }
 {
     let mut bytes = Row::new(alloc);
     match write_signed(package, &mut bytes) {
-        Ok(()) => MessageEnd::Reply(ToIpa::Package(bytes)),
+        Ok(()) => carried(bytes),
         Err(NoMemory) => MessageEnd::NoMemory,
     }
 }

@@ -3,7 +3,12 @@ use Rattle.esipa_codec.specs.Eims.{heard, message_end}
 use Rattle.esipa_codec.specs.declared.messages.ToEim.{ToEim}
 use Rattle.eim_queue.specs.Queues.{Queue, IsEim, IfServed, queue_of}
 use Rattle.eim_queue.proofs.Standing.{poll_heard, refusal_end, refusal_heard, served_all}
+use Rattle.esipa_codec.specs.Ranges.{IsToEim}
 use Rattle.eim_queue.proofs.queue.Eim.on_message.Goals as goal
+
+pub returns-in-Result-clause-range : goal.returns-in-Result-clause-range
+unfolding IsToEim
+returns-in-Result-clause-range c = λ fits. c.on_result.ensures.range (subst IsToEim c.in-Result.is fits).seq
 
 pub returns-in-Poll-clause-stands : goal.returns-in-Poll-clause-stands
 returns-in-Poll-clause-stands c = λ e h.

@@ -4,7 +4,11 @@ use Rattle.small_card.specs.Ranges.{IsSigned}
 use Rattle.eim_queue.specs.declared.orders.Order.{Order}
 use Rattle.eim_queue.specs.Queues.{Queue, IsEim, queue_of}
 use Rattle.eim_queue.proofs.Standing.{other_result, other_heard, own_result, own_heard, settled_fit}
+use Rattle.eim_queue.proofs.Sending.{ack_sendable}
 use Rattle.eim_queue.proofs.queue.Eim.on_result.Goals as goal
+
+pub returns-in-Ok-clause-range : goal.returns-in-Ok-clause-range
+returns-in-Ok-clause-range c = λ fits. ack_sendable c.args.item.seq fits
 
 pub returns-then-not-is_same_eim-clause-end : goal.returns-then-not-is_same_eim-clause-end
 returns-then-not-is_same_eim-clause-end c = λ e h.
