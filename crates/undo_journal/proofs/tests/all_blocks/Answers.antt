@@ -7,4 +7,4 @@ pub loop-block-preserved : goal.loop-block-preserved
 loop-block-preserved c =
     let b = c.loop-block.block in
     let next : suc b ≡ b + 1 = omega arith in
-    c.in-Ok.ensures.ok ∙ ap (λ (l : List ℕ). l ++ b ∷ []) c.loop-block.invariant ∙ up_from-push 0 b b (omega arith) ∙ ap (λ (n : ℕ). up_from 0 n) next
+    c.in-Ok.ensures.ok ∙ ap (λ (l : List ℕ). l ++ b ∷ []) (c.deref_mut.ensures.items ∙ c.loop-block.invariant) ∙ up_from-push 0 b b (omega arith) ∙ ap (λ (n : ℕ). up_from 0 n) next
