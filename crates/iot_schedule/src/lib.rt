@@ -12,6 +12,8 @@ mod maker;
 mod operation_writing;
 mod operations;
 mod steps;
+#[cfg(test)]
+mod tests;
 mod token_writing;
 mod tokens;
 mod types;

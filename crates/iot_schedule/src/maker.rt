@@ -205,7 +205,9 @@ impl Maker {
     pub fn next_line(&mut self, number: u32, out: &mut Row<u8>) -> Result<(), NoMemory>
         ensures line { OnOk result (out.new ≡ out.old ++ line_text number self.old.state) }
         ensures state { OnOk result (self.new.state ≡ state_after number self.old.state) }
-        ensures of_start { (start : ℕ) → self.old.state ≡ state_before start number → OnOk result ((out.new ≡ out.old ++ made_line start number) × (self.new.state ≡ state_before start (number + 1))) }
+        ensures of_start { (start : ℕ) → self.old.state ≡ state_before start number → OnOk result (
+            (out.new ≡ out.old ++ made_line start number)
+            × (self.new.state ≡ state_before start (number + 1))) }
         ensures err { OnErr result (out.new ≡ out.old) }
         ensures same { OnErr result (self.new.state ≡ self.old.state) }
     {

@@ -4,7 +4,7 @@ use sgp_values::{Address, Eid, EimId, Key};
 use small_card::{Body, Profile};
 
 /// The first line of a schedule: the card that is personalised.
-#[derive(Debug, Drop)]
+#[derive(Debug, Drop, PartialEq, Eq)]
 pub struct Device {
     pub eid: Eid,
     pub profiles: Row<Profile>,
@@ -18,7 +18,7 @@ pub enum Pick {
 }
 
 /// A line of a schedule behind the first. `docs/SCHEDULE.md` tells what happens at each.
-#[derive(Debug, Drop)]
+#[derive(Debug, Drop, PartialEq, Eq)]
 pub enum Line {
     Eim {
         id: EimId,
