@@ -64,11 +64,22 @@ fn frames(alloc: Global, contents: &[&str], rest: &str) -> Result<Row<u8>, Fail>
     for content in contents {
         let mut octets = Row::new(alloc);
         put(&mut octets, alloc, content)?;
-        out.append(&(octets.len() as u32).to_be_bytes())?;
+        let Ok(len) = u32::try_from(octets.len()) else {
+            return Err("the content is too long".into());
+        };
+        out.append(&len.to_be_bytes())?;
         out.append(octets.as_slice())?;
     }
     put(&mut out, alloc, rest)?;
     Ok(out)
+}
+
+/// Appends the frame of a content, if there is one.
+fn put_one(out: &mut Row<u8>, alloc: Global, content: Option<&&str>) -> Result<(), Fail> {
+    if let Some(content) = content {
+        out.append(frames(alloc, &[*content], "")?.as_slice())?;
+    }
+    Ok(())
 }
 
 /// Whether `card x` over an input ends with the status, and these octets are sent.
@@ -265,8 +276,7 @@ fn input_cut_after_each_octet(rt: HostRuntime) -> Result<(), Fail> {
         let mut sent = frames(alloc, answers.get(..whole).unwrap_or(&[]), "")?;
         let torn = !ends_of_frames.contains(&cut);
         if torn {
-            let record = stopped.get(whole..whole + 1).unwrap_or(&[]);
-            sent.append(frames(alloc, record, "")?.as_slice())?;
+            put_one(&mut sent, alloc, stopped.get(whole))?;
         }
         let status = if torn { 5 } else { 0 };
         assert!(rt; ends(alloc, &input, &WHOLE, status, &sent)?, "cut at {cut}");
@@ -328,8 +338,7 @@ fn edges_that_fail(rt: HostRuntime) -> Result<(), Fail> {
     for call in 0..7 {
         let at = call as usize / 2;
         let mut sent = frames(alloc, answers.get(..at).unwrap_or(&[]), "")?;
-        let record = stopped.get(at..at + 1).unwrap_or(&[]);
-        sent.append(frames(alloc, record, "")?.as_slice())?;
+        put_one(&mut sent, alloc, stopped.get(at))?;
         let failing = [call];
         let edge = Edge {
             failing: &failing,
