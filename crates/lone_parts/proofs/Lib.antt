@@ -1,0 +1,4 @@
+pub mod Folding
+pub mod EimSteps
+pub mod IpaSteps
+pub mod Ending

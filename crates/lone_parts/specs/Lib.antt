@@ -1,0 +1,5 @@
+pub mod Folds
+pub mod Eims
+pub mod Ipas
+pub mod Starting
+pub mod Runs
