@@ -1,5 +1,5 @@
 -- A frame that is a command, one that is none, and one that personalises a card.
-use Rattle.std.proofs.Common.{◌≡◌, ◌∙◌, ap, sym, subst, refl, arith, ℕ, List, [], Option, Some, None}
+use Rattle.std.proofs.Common.{◌≡◌, ◌∙◌, ap, sym, subst, refl, ℕ, List, [], Option, Some, None}
 use Rattle.sgp_values.specs.Eids.{IsEid}
 use Rattle.small_card.specs.Cards.{FullCard}
 use Rattle.small_card.specs.Histories.{History, full_of}

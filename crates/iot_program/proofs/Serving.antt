@@ -16,7 +16,6 @@ use Rattle.run_loop.specs.Runs.{Ended, Reason}
 use Rattle.run_loop.specs.Status.{halt_status, exit_status}
 use Rattle.run_loop.proofs.Mapping.{ended_map, status_two, status_three}
 use Rattle.iot_program.specs.declared.words.Form.{Form}
-use Rattle.iot_program.specs.declared.words.Form.TheVariants as form
 use Rattle.iot_program.specs.Answering.{StandsFor, AreAnswered, StopsAt, LedTo, StoppedAt}
 use Rattle.iot_program.specs.Ends.{Served, Does}
 use Rattle.iot_program.proofs.Histories.{no_reply_first}
@@ -33,8 +32,12 @@ served first now status old new end none same ended =
           (λ fs text led. (led None dark).answered) (λ fs text f stop stopped. (stopped None dark).stops) ended;
     }
 
-pub does : (words : Option Form) (f : Form) (status : ℕ) (old new : Edge) → words ≡ Some f → Served status old new → Does words status old new
-does words form.Card status old new is served = subst (λ (w : Option Form). Does w status old new) (sym is) served
+-- what a form does, by its variant
+pub does_of : (words f : Form) (status : ℕ) (old new : Edge) → words ≡ f → Does (Some f) status old new → Does (Some words) status old new
+does_of words f status old new is did = subst (λ (w : Form). Does (Some w) status old new) (sym is) did
+
+pub does_words : (words : Option Form) (f : Form) (status : ℕ) (old new : Edge) → words ≡ Some f → Does (Some f) status old new → Does words status old new
+does_words words f status old new is did = subst (λ (w : Option Form). Does w status old new) (sym is) did
 
 pub has_causes : (status : ℕ) (old new : Edge) → Served status old new → HasCauses old new (status ≡ 2) (status ≡ 3)
 has_causes status old new s =

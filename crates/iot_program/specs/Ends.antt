@@ -9,6 +9,11 @@ use Rattle.run_loop.specs.Edges.{Edge}
 use Rattle.run_loop.specs.Frames.{IsShort}
 use Rattle.run_loop.specs.Runs.{Ended}
 use Rattle.run_loop.specs.Status.{exit_status}
+use Rattle.esipa_codec.specs.Eims.{new_eim}
+use Rattle.lone_parts.specs.Eims.{eim_rule}
+use Rattle.lone_parts.specs.Ipas.{ipa_rule}
+use Rattle.lone_parts.specs.Runs.{Ran}
+use Rattle.lone_parts.specs.Runs as parts
 use Rattle.iot_program.specs.Cards.{reply_to, Begins}
 use Rattle.iot_program.specs.Answering.{AreAnswered, StopsAt}
 use Rattle.iot_program.specs.declared.words.Form.{Form}
@@ -24,12 +29,21 @@ pub record Served (status : ℕ) (old new : Edge) : Type 0 where
 abbrev pub Does : Option Form → ℕ → Edge → Edge → Type 0
 Does None status old new = status ≡ 1
 Does (Some form.Card) status old new = Served status old new
+Does (Some (form.Eim id eid)) status old new = Ran eim_rule (new_eim id eid) status old new
+Does (Some (form.Ipa eid)) status old new = Ran (ipa_rule eid) [] status old new
 
 -- these frames are within the limits, and the first one personalises the card
 pub record AreHandled (fs : List (List ℕ)) : Type 0 where
   pub few : length fs ≤ MOST_FRAMES
   pub short : AllByRecursion IsShort fs
   pub begins : Begins None fs
+
+-- these frames are within the limits and, by the form, the first one personalises the card, or each is in the
+-- part's grammar
+abbrev pub HandledBy : Form → List (List ℕ) → Type 0
+HandledBy form.Card fs = AreHandled fs
+HandledBy (form.Eim id eid) fs = parts.AreHandled eim_rule (new_eim id eid) fs
+HandledBy (form.Ipa eid) fs = parts.AreHandled (ipa_rule eid) [] fs
 
 -- the octets begin with the length of a frame above the limit
 pub record IsOverLimit (octets : List ℕ) : Type 0 where
