@@ -5,8 +5,6 @@
 mod eim_part;
 mod ipa_part;
 mod runs;
-#[cfg(test)]
-mod tests;
 mod unread;
 
 pub use eim_part::EimPart;
