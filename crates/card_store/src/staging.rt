@@ -97,7 +97,8 @@ fn ready<C: Chip>(chip: &mut C, changes: Changes, card: Card) -> Result<Staged, 
 /// the blocks that the new results take.
 ///
 /// A pending result keeps its slot. Where one result is gone and one came, this one takes its slot;
-/// each other new result takes the lowest free slot.
+/// each other new result takes the lowest free slot. No clause says which slot a result takes: the
+/// contract says that each stands in exactly one.
 pub fn stage<C: Chip>(
     alloc: Global,
     chip: &mut C,
