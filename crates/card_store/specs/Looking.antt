@@ -17,7 +17,7 @@ pub record Looks (n : ℕ) (old new : Seen) : Type 0 where
 -- on every chip: the count of faults never falls, and this end comes only where it rose
 pub record HasCauseOf {T E : Type 0} (failed : E) (old new : Seen) (result : Result T E) : Type 0 where
   pub told : new.told ≡ old.told
-  pub later : old.faults ≤ new.faults
+  pub monotone : old.faults ≤ new.faults
   pub cause : IsErrOf result failed → Rose old.faults new.faults
 
 -- one home block was read, or the call failed

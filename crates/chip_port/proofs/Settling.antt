@@ -4,8 +4,8 @@ use Rattle.std.proofs.lemmas.Grind.{common_steps, same_number_lists}
 use Rattle.std.proofs.lemmas.Bool.Decides.{nat_tests}
 use Rattle.std.proofs.lemmas.List.{places, length-replicate, reverse-append, take_more}
 use Rattle.chip_port.specs.declared.medium.Record.{Record}
-use Rattle.chip_port.specs.declared.medium.Record.TheVariants.{Write, Sync, Answer, Cut, Wake}
-use Rattle.chip_port.specs.declared.medium.Rises.{Rises}
+use Rattle.chip_port.specs.declared.medium.Record.TheVariants.{Write, Sync, Answer, Cut, PowerCycle}
+use Rattle.chip_port.specs.declared.medium.Survives.{Survives}
 use Rattle.chip_port.specs.declared.chip.Tear.{Tear}
 use Rattle.chip_port.specs.Rules.{put}
 use Rattle.chip_port.specs.Past.{Images, images, fits, zeros}
@@ -91,8 +91,8 @@ agree_none size one two a = same_number_lists one two (a.one_size ∙ sym a.two_
 pub agree_sync : (size : ℕ) (older : List Record) (one two : List ℕ) → Agree size (Sync ∷ older) one two → one ≡ two
 agree_sync size older one two a = same_number_lists one two (a.one_size ∙ sym a.two_size) (λ i h. a.same i tt)
 
-pub agree_wake : (size : ℕ) (rises : Rises) (older : List Record) (one two : List ℕ) → Agree size (Wake rises ∷ older) one two → one ≡ two
-agree_wake size rises older one two a = same_number_lists one two (a.one_size ∙ sym a.two_size) (λ i h. a.same i tt)
+pub agree_power_cycle : (size : ℕ) (survives : Survives) (older : List Record) (one two : List ℕ) → Agree size (PowerCycle survives ∷ older) one two → one ≡ two
+agree_power_cycle size survives older one two a = same_number_lists one two (a.one_size ∙ sym a.two_size) (λ i h. a.same i tt)
 
 -- an answer and a cut write nothing
 pub agree_answer : (size cuts breaks : ℕ) (older : List Record) (one two : List ℕ) → Agree size (Answer cuts breaks ∷ older) one two → Agree size older one two
@@ -145,10 +145,10 @@ images_agree size (Cut tear ∷ older) octets f =
       synced = record { fit = ih.synced.fit; one_size = ih.synced.one_size; two_size = ih.synced.two_size; same = ih.synced.same };
       junk = record { fit = ih.junk.fit; one_size = ih.junk.one_size; two_size = ih.junk.two_size; same = ih.junk.same };
     }
-images_agree size (Wake rises ∷ older) octets f =
+images_agree size (PowerCycle survives ∷ older) octets f =
     let ih = images_agree size older octets f in
-    let z = sized size (past_of (Wake rises ∷ older) octets) f in
-    let s = agree_self size (Wake rises ∷ older) (images size (past_of (Wake rises ∷ older) octets)).content ih.synced.fit z.content in
+    let z = sized size (past_of (PowerCycle survives ∷ older) octets) f in
+    let s = agree_self size (PowerCycle survives ∷ older) (images size (past_of (PowerCycle survives ∷ older) octets)).content ih.synced.fit z.content in
     record { synced = s; junk = s }
 
 pub kept_synced : (records : List Record) (octets c s j : List ℕ) → IsKept (past_of records octets) c s j → Agree 346624 records s c

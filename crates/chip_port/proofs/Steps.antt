@@ -3,13 +3,13 @@ use Rattle.std.proofs.Common.{◌≡◌, inl, ℕ, Bool, true, false, List, [], 
 use Rattle.std.specs.Prelude.{Some, None, Ok, leb, if◌then◌else◌}
 use Rattle.iot_bytes.specs.declared.source.Failed.{Failed}
 use Rattle.chip_port.specs.declared.counts.Counts.{Counts}
-use Rattle.chip_port.specs.declared.medium.Rises.{Rises}
-use Rattle.chip_port.specs.declared.medium.Rises.TheVariants.{Content}
+use Rattle.chip_port.specs.declared.medium.Survives.{Survives}
+use Rattle.chip_port.specs.declared.medium.Survives.TheVariants.{Content}
 use Rattle.chip_port.specs.Seen.{called, Passes, Marks}
 use Rattle.chip_port.specs.declared.chip.Tear.{Tear}
 use Rattle.chip_port.specs.Rules.{Torn, Synced, Woken, woken}
-use Rattle.chip_port.specs.Past.{Past, wrote, did_sync, did_answer, was_cut, woke_as, images, risen, fits, marks_of}
-use Rattle.chip_port.specs.PastLaws.{risen_left, fits_wrote, sized, torn_put}
+use Rattle.chip_port.specs.Past.{Past, wrote, did_sync, did_answer, was_cut, woke_as, images, survived, fits, marks_of}
+use Rattle.chip_port.specs.PastLaws.{survived_left, fits_wrote, sized, torn_put}
 use Rattle.chip_port.specs.Counts.{tally_of}
 use Rattle.chip_port.specs.MemSeen.{seen_in, is_woken}
 
@@ -19,7 +19,7 @@ synced_in past later a b ca oa cb ob f is tally passes calm = subst (λ (p : Lis
   call = record { tally = tally; passes = passes; calm = calm; time = record { keeps = λ n c was. inl was; nothing_else = λ n c left. left } };
   reads = refl;
   marks = refl;
-  fewer = λ c now. subst (λ (i : List ℕ). (seen_in past a ca oa).leaves i) (sym now) (risen_left 346624 Content past f);
+  fewer = λ c now. subst (λ (i : List ℕ). (seen_in past a ca oa).leaves i) (sym now) (survived_left 346624 Content past f);
   done = λ c now. now;
   failed = tt;
 })
@@ -37,12 +37,12 @@ pub torn_cut : (past cut later : List Past) (at n : ℕ) (octets : List ℕ) (te
 torn_cut past cut later at n octets tear f g is after =
     subst (λ (p : List Past). Torn at n (images 346624 past).content (images 346624 p).content) (sym after) (torn_wrote past cut at n octets f g is)
 
-pub woken_in : (past later : List Past) (rises : Rises) (a : Counts) (calls octets : ℕ) → fits 346624 past ≡ true → later ≡ woke_as rises ∷ past
+pub woken_in : (past later : List Past) (survives : Survives) (a : Counts) (calls octets : ℕ) → fits 346624 past ≡ true → later ≡ woke_as survives ∷ past
     → Woken {T = Unit {0}} {E = Failed} (seen_in past a calls octets) (seen_in later (record a { cut = None }) calls octets) (Ok tt)
-woken_in past later rises a calls octets f is = subst (λ (p : List Past). Woken {T = Unit {0}} {E = Failed} (seen_in past a calls octets) (seen_in p (record a { cut = None }) calls octets) (Ok tt)) (sym is) (record {
+woken_in past later survives a calls octets f is = subst (λ (p : List Past). Woken {T = Unit {0}} {E = Failed} (seen_in past a calls octets) (seen_in p (record a { cut = None }) calls octets) (Ok tt)) (sym is) (record {
   tally = refl;
   calm = refl;
-  done = (risen_left 346624 rises past f, λ c now. now, refl);
+  done = (survived_left 346624 survives past f, λ c now. now, refl);
   failed = tt;
   time = record { keeps = λ n c was. inl was; nothing_else = λ n c left. left };
 })
@@ -56,10 +56,10 @@ woken_twice image m = λ i. record { answers = m.answers; cuts_at = m.cuts_at; b
 
 pub woken_again : (past : List Past) (a : Counts) (calls octets : ℕ) → is_woken past ≡ true
     → Woken {T = Unit {0}} {E = Failed} (seen_in past a calls octets) (seen_in past (record a { cut = None }) calls octets) (Ok tt)
-woken_again (woke_as rises ∷ older) a calls octets is = record {
+woken_again (woke_as survives ∷ older) a calls octets is = record {
   tally = refl;
   calm = refl;
-  done = (refl, λ c now. now, woken_twice (risen rises (images 346624 older)) (marks_of 346624 older));
+  done = (refl, λ c now. now, woken_twice (survived survives (images 346624 older)) (marks_of 346624 older));
   failed = tt;
   time = record { keeps = λ n c was. was; nothing_else = λ n c left. inl left };
 }

@@ -2,7 +2,7 @@
 use Rattle.std.specs.Prelude.{◌≡◌, ◌⊎◌, ℕ, ◌+◌, ◌-◌, ◌≤◌, Bool, ◌&&◌, leb, List, [], ◌∷◌, length, take, drop, get_or, true}
 use Rattle.chip_port.specs.declared.chip.TheConstants.{CHIP_SIZE}
 use Rattle.chip_port.specs.declared.medium.Record.{Record}
-use Rattle.chip_port.specs.declared.medium.Record.TheVariants.{Write, Sync, Answer, Cut, Wake}
+use Rattle.chip_port.specs.declared.medium.Record.TheVariants.{Write, Sync, Answer, Cut, PowerCycle}
 use Rattle.chip_port.specs.Past.{Past, wrote, did_sync, did_answer, was_cut, woke_as, images, fits}
 
 -- the history, and how many records and octets need no more memory
@@ -18,7 +18,7 @@ past_of (Write at n kept ∷ older) octets = wrote at n (drop (length octets - k
 past_of (Sync ∷ older) octets = did_sync ∷ past_of older octets
 past_of (Answer cuts breaks ∷ older) octets = did_answer cuts breaks ∷ past_of older octets
 past_of (Cut tear ∷ older) octets = was_cut tear ∷ past_of older octets
-past_of (Wake rises ∷ older) octets = woke_as rises ∷ past_of older octets
+past_of (PowerCycle survives ∷ older) octets = woke_as survives ∷ past_of older octets
 
 -- these are the images after all that
 pub record IsKept (past : List Past) (content synced junk : List ℕ) : Type 0 where
@@ -35,7 +35,7 @@ all_fit size (Write at n kept ∷ older) = leb (at + n) size && all_fit size old
 all_fit size (Sync ∷ older) = all_fit size older
 all_fit size (Answer cuts breaks ∷ older) = all_fit size older
 all_fit size (Cut tear ∷ older) = all_fit size older
-all_fit size (Wake rises ∷ older) = all_fit size older
+all_fit size (PowerCycle survives ∷ older) = all_fit size older
 
 -- no range that was written since the last sync or power cycle has this octet
 abbrev pub IsSettled : ℕ → List Record → Type 0
@@ -44,7 +44,7 @@ IsSettled i (Write at n kept ∷ older) = ((i + 1 ≤ at) ⊎ (at + n ≤ i)) ×
 IsSettled i (Sync ∷ older) = Unit {0}
 IsSettled i (Answer cuts breaks ∷ older) = IsSettled i older
 IsSettled i (Cut tear ∷ older) = IsSettled i older
-IsSettled i (Wake rises ∷ older) = Unit {0}
+IsSettled i (PowerCycle survives ∷ older) = Unit {0}
 
 -- two images agree wherever nothing was written since the last sync
 pub record Agree (size : ℕ) (records : List Record) (one two : List ℕ) : Type 0 where

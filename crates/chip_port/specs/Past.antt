@@ -1,7 +1,7 @@
 -- What was done to a chip in memory, the newest first, and what that makes of its octets.
 use Rattle.std.specs.Prelude.{◌≡◌, ◌⊎◌, ℕ, ◌+◌, Bool, true, false, ◌&&◌, if◌then◌else◌, ◌==◌, List, [], ◌∷◌, length, replicate, Option, Some, None, leb}
-use Rattle.chip_port.specs.declared.medium.Rises.{Rises}
-use Rattle.chip_port.specs.declared.medium.Rises.TheVariants.{Content, Synced, Junk}
+use Rattle.chip_port.specs.declared.medium.Survives.{Survives}
+use Rattle.chip_port.specs.declared.medium.Survives.TheVariants.{Content, Synced, Junk}
 use Rattle.chip_port.specs.declared.chip.Tear.{Tear}
 use Rattle.chip_port.specs.Seen.{Marks}
 use Rattle.chip_port.specs.Rules.{put, Torn, woken}
@@ -16,7 +16,7 @@ pub data Past : Type 0 where
   did_sync : Past
   did_answer : (cuts breaks : ℕ) → Past
   was_cut : Tear → Past
-  woke_as : Rises → Past
+  woke_as : Survives → Past
 
 -- the content, what was synced last, and that with A5 in each range not synced
 pub record Images : Type 0 where
@@ -29,10 +29,10 @@ abbrev pub one_image : List ℕ → Images
 one_image i = record { content = i; synced = i; junk = i }
 
 -- the image that a power cycle gives
-abbrev pub risen : Rises → Images → List ℕ
-risen Content i = i.content
-risen Synced i = i.synced
-risen Junk i = i.junk
+abbrev pub survived : Survives → Images → List ℕ
+survived Content i = i.content
+survived Synced i = i.synced
+survived Junk i = i.junk
 
 -- a chip begins with all octets 0, a write changes its range, a sync and a power cycle leave nothing unsynced
 abbrev pub images : ℕ → List Past → Images
@@ -45,7 +45,7 @@ images size (wrote at n octets ∷ older) = record {
 images size (did_sync ∷ older) = one_image (images size older).content
 images size (did_answer cuts breaks ∷ older) = images size older
 images size (was_cut tear ∷ older) = images size older
-images size (woke_as rises ∷ older) = one_image (risen rises (images size older))
+images size (woke_as survives ∷ older) = one_image (survived survives (images size older))
 
 -- what a cut may leave: after a sync the content alone, and each write since then makes its range any octets
 abbrev pub may_leave : ℕ → List Past → List ℕ → Type 0
@@ -54,7 +54,7 @@ may_leave size (wrote at n octets ∷ older) c = (d : List ℕ) × may_leave siz
 may_leave size (did_sync ∷ older) c = c ≡ (images size older).content
 may_leave size (did_answer cuts breaks ∷ older) c = may_leave size older c
 may_leave size (was_cut tear ∷ older) c = may_leave size older c
-may_leave size (woke_as rises ∷ older) c = c ≡ risen rises (images size older)
+may_leave size (woke_as survives ∷ older) c = c ≡ survived survives (images size older)
 
 -- one answer more, with the counts of this moment
 abbrev pub marked : ℕ → ℕ → Marks → Marks
@@ -72,7 +72,7 @@ marks_of size (wrote at n octets ∷ older) = marks_of size older
 marks_of size (did_sync ∷ older) = marks_of size older
 marks_of size (did_answer cuts breaks ∷ older) = marked cuts breaks (marks_of size older)
 marks_of size (was_cut tear ∷ older) = marks_of size older
-marks_of size (woke_as rises ∷ older) = woken (risen rises (images size older)) (marks_of size older)
+marks_of size (woke_as survives ∷ older) = woken (survived survives (images size older)) (marks_of size older)
 
 -- what a cut after the n-th answer and before the next may have left
 abbrev pub has_left : ℕ → List Past → ℕ → List ℕ → Type 0
@@ -86,7 +86,7 @@ fits size (wrote at n octets ∷ older) = leb (at + n) size && leb (length octet
 fits size (did_sync ∷ older) = fits size older
 fits size (did_answer cuts breaks ∷ older) = fits size older
 fits size (was_cut tear ∷ older) = fits size older
-fits size (woke_as rises ∷ older) = fits size older
+fits size (woke_as survives ∷ older) = fits size older
 
 -- what a call adds to the history: the cut with what it left where it was the cut, what it did where it succeeded, and else nothing
 abbrev pub history : Option Tear → Bool → List Past → (Tear → List Past) → List Past → List Past

@@ -4,10 +4,10 @@ use Rattle.std.proofs.lemmas.Grind.{common_steps}
 use Rattle.std.proofs.lemmas.Bool.Decides.{nat_tests}
 use Rattle.std.proofs.lemmas.Slice.{drop-append-drop}
 use Rattle.std.proofs.lemmas.List.{length-replicate}
-use Rattle.chip_port.specs.declared.medium.Rises.{Rises}
-use Rattle.chip_port.specs.declared.medium.Rises.TheVariants.{Content, Synced, Junk}
+use Rattle.chip_port.specs.declared.medium.Survives.{Survives}
+use Rattle.chip_port.specs.declared.medium.Survives.TheVariants.{Content, Synced, Junk}
 use Rattle.chip_port.specs.Rules.{put, Torn}
-use Rattle.chip_port.specs.Past.{Past, wrote, did_sync, did_answer, was_cut, woke_as, Images, images, may_leave, has_left, marks_of, fits, zeros, risen}
+use Rattle.chip_port.specs.Past.{Past, wrote, did_sync, did_answer, was_cut, woke_as, Images, images, may_leave, has_left, marks_of, fits, zeros, survived}
 
 pub length-zeros : (n : ℕ) → length (zeros n) ≡ n
 unfolding zeros
@@ -39,10 +39,10 @@ pub record FitsWrote (size at n : ℕ) (octets : List ℕ) (older : List Past) :
 pub fits_wrote : (size at n : ℕ) (octets : List ℕ) (older : List Past) → fits size (wrote at n octets ∷ older) ≡ true → FitsWrote size at n octets older
 fits_wrote size at n octets older f = record { inside = grind (arith, nat_tests); short = grind (arith, nat_tests); rest = grind (arith, nat_tests) }
 
-length-risen : (size : ℕ) (rises : Rises) (i : Images) → Sized size i → length (risen rises i) ≡ size
-length-risen size Content i s = s.content
-length-risen size Synced i s = s.synced
-length-risen size Junk i s = s.junk
+length-survived : (size : ℕ) (survives : Survives) (i : Images) → Sized size i → length (survived survives i) ≡ size
+length-survived size Content i s = s.content
+length-survived size Synced i s = s.synced
+length-survived size Junk i s = s.junk
 
 pub sized : (size : ℕ) (past : List Past) → fits size past ≡ true → Sized size (images size past)
 sized size [] f = record { content = length-zeros size; synced = length-zeros size; junk = length-zeros size }
@@ -57,33 +57,33 @@ sized size (wrote at n octets ∷ older) f =
 sized size (did_sync ∷ older) f = let s = sized size older f in record { content = s.content; synced = s.content; junk = s.content }
 sized size (did_answer cuts breaks ∷ older) f = sized size older f
 sized size (was_cut tear ∷ older) f = sized size older f
-sized size (woke_as rises ∷ older) f =
-    let e = length-risen size rises (images size older) (sized size older f) in record { content = e; synced = e; junk = e }
+sized size (woke_as survives ∷ older) f =
+    let e = length-survived size survives (images size older) (sized size older f) in record { content = e; synced = e; junk = e }
 
 -- each of the three images may be left
-pub risen_left : (size : ℕ) (rises : Rises) (past : List Past) → fits size past ≡ true → may_leave size past (risen rises (images size past))
-risen_left size Content [] f = refl
-risen_left size Synced [] f = refl
-risen_left size Junk [] f = refl
-risen_left size Content (wrote at n octets ∷ older) f =
+pub survived_left : (size : ℕ) (survives : Survives) (past : List Past) → fits size past ≡ true → may_leave size past (survived survives (images size past))
+survived_left size Content [] f = refl
+survived_left size Synced [] f = refl
+survived_left size Junk [] f = refl
+survived_left size Content (wrote at n octets ∷ older) f =
     let w = fits_wrote size at n octets older f in
     let s = sized size older w.rest in
-    ((images size older).content, risen_left size Content older w.rest, torn_put (images size older).content at n octets (omega (arith, w.inside, s.content)) w.short)
-risen_left size Synced (wrote at n octets ∷ older) f =
+    ((images size older).content, survived_left size Content older w.rest, torn_put (images size older).content at n octets (omega (arith, w.inside, s.content)) w.short)
+survived_left size Synced (wrote at n octets ∷ older) f =
     let w = fits_wrote size at n octets older f in
-    ((images size older).synced, risen_left size Synced older w.rest, torn_same at n (images size older).synced)
-risen_left size Junk (wrote at n octets ∷ older) f =
+    ((images size older).synced, survived_left size Synced older w.rest, torn_same at n (images size older).synced)
+survived_left size Junk (wrote at n octets ∷ older) f =
     let w = fits_wrote size at n octets older f in
     let s = sized size older w.rest in
-    ((images size older).junk, risen_left size Junk older w.rest, torn_put (images size older).junk at n (replicate n 165) (omega (arith, w.inside, s.junk)) (omega (arith, length-replicate {A = ℕ} n 165)))
-risen_left size Content (did_sync ∷ older) f = refl
-risen_left size Synced (did_sync ∷ older) f = refl
-risen_left size Junk (did_sync ∷ older) f = refl
-risen_left size rises (did_answer cuts breaks ∷ older) f = risen_left size rises older f
-risen_left size rises (was_cut tear ∷ older) f = risen_left size rises older f
-risen_left size Content (woke_as r ∷ older) f = refl
-risen_left size Synced (woke_as r ∷ older) f = refl
-risen_left size Junk (woke_as r ∷ older) f = refl
+    ((images size older).junk, survived_left size Junk older w.rest, torn_put (images size older).junk at n (replicate n 165) (omega (arith, w.inside, s.junk)) (omega (arith, length-replicate {A = ℕ} n 165)))
+survived_left size Content (did_sync ∷ older) f = refl
+survived_left size Synced (did_sync ∷ older) f = refl
+survived_left size Junk (did_sync ∷ older) f = refl
+survived_left size survives (did_answer cuts breaks ∷ older) f = survived_left size survives older f
+survived_left size survives (was_cut tear ∷ older) f = survived_left size survives older f
+survived_left size Content (woke_as r ∷ older) f = refl
+survived_left size Synced (woke_as r ∷ older) f = refl
+survived_left size Junk (woke_as r ∷ older) f = refl
 
 pub left_sized : (size : ℕ) (past : List Past) → fits size past ≡ true → (c : List ℕ) → may_leave size past c → length c ≡ size
 left_sized size [] f c m = ap length m ∙ length-zeros size
@@ -91,7 +91,7 @@ left_sized size (wrote at n octets ∷ older) f c m = m.2.size ∙ left_sized si
 left_sized size (did_sync ∷ older) f c m = ap length m ∙ (sized size older f).content
 left_sized size (did_answer cuts breaks ∷ older) f c m = left_sized size older f c m
 left_sized size (was_cut tear ∷ older) f c m = left_sized size older f c m
-left_sized size (woke_as rises ∷ older) f c m = ap length m ∙ length-risen size rises (images size older) (sized size older f)
+left_sized size (woke_as survives ∷ older) f c m = ap length m ∙ length-survived size survives (images size older) (sized size older f)
 
 pub left_now : (size : ℕ) (past : List Past) (c : List ℕ) → may_leave size past c → has_left size past (marks_of size past).answers c
 left_now size [] c m = (refl, m)
@@ -102,7 +102,7 @@ answers_rise size (wrote at n octets) older = omega arith
 answers_rise size did_sync older = omega arith
 answers_rise size (did_answer cuts breaks) older = omega arith
 answers_rise size (was_cut tear) older = omega arith
-answers_rise size (woke_as rises) older = omega arith
+answers_rise size (woke_as survives) older = omega arith
 
 pub none_above : (size : ℕ) (past : List Past) (n : ℕ) (c : List ℕ) → has_left size past n c → n ≤ (marks_of size past).answers
 none_above size [] n c h = omega arith

@@ -32,7 +32,7 @@ IfTold s P = s.told ≡ true → P
 -- whether it tells stays, and a failure is told only where the count of faults rose
 pub record HasCause {T E : Type 0} (old new : Seen) (result : Result T E) : Type 0 where
   pub told : new.told ≡ old.told
-  pub later : old.faults ≤ new.faults
+  pub monotone : old.faults ≤ new.faults
   pub failed : OnErr result (Rose old.faults new.faults)
 
 -- spare as it was, less this

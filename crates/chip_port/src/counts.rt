@@ -54,7 +54,7 @@ impl Counts {
         ensures passes { passed result ≡ true → Passes (tally_of self.old) }
         ensures fails { Passes (tally_of self.old) → passed result
             ≡ (if breaks then false else true) }
-        ensures later { self.old.faults ≤ self.new.faults }
+        ensures monotone { self.old.faults ≤ self.new.faults }
         ensures rose { passed result ≡ false → Rose self.old.faults self.new.faults }
         ensures calm { passed result ≡ true → self.new.faults ≡ self.old.faults }
         ensures cuts { cut_now (tally_of self.old) ≡ cut_by result }

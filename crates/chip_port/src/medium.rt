@@ -19,7 +19,7 @@ const JUNK: u8 = 0xA5;
 
 /// Which octets a power cycle gives.
 #[derive(Clone, Copy, Debug, PartialEq, Eq)]
-pub enum Rises {
+pub enum Survives {
     /// All that was written.
     Content,
     /// What was synced last.
@@ -40,7 +40,7 @@ pub enum Record {
     /// A planned cut.
     Cut(Tear),
     /// A power cycle.
-    Wake(Rises),
+    PowerCycle(Survives),
 }
 
 /// The content, the history beside it, and the two further images that a power cycle may give.
@@ -176,28 +176,28 @@ impl Medium {
     }
 
     /// A power cycle, which gives one of the three images.
-    pub fn wake(&mut self, rises: Rises)
+    pub fn power_cycle(&mut self, survives: Survives)
         requires { 1 ≤ self.old.calls }
-        ensures past { self.new.past ≡ woke_as rises ∷ self.old.past }
+        ensures past { self.new.past ≡ woke_as survives ∷ self.old.past }
         ensures inside { fits CHIP_SIZE self.new.past ≡ true }
         ensures calls { self.old.calls ≤ self.new.calls + 1 }
         ensures octets { self.new.octets ≡ self.old.octets }
     {
-        match rises {
-            Rises::Content => {
+        match survives {
+            Survives::Content => {
                 settle(&mut self.synced, &self.content, &self.records);
                 settle(&mut self.junk, &self.content, &self.records);
             }
-            Rises::Synced => {
+            Survives::Synced => {
                 self.content.copy_from_slice(&self.synced);
                 self.junk.copy_from_slice(&self.synced);
             }
-            Rises::Junk => {
+            Survives::Junk => {
                 self.content.copy_from_slice(&self.junk);
                 self.synced.copy_from_slice(&self.junk);
             }
         }
-        push(&mut self.records, Record::Wake(rises));
+        push(&mut self.records, Record::PowerCycle(survives));
     }
 }
 
@@ -222,7 +222,7 @@ fn settle(image: &mut [u8], content: &[u8], records: &[Record])
             Record::Write { at, len, .. } => {
                 copy_range(image, content, at as usize, len as usize);
             }
-            Record::Sync | Record::Wake(_) => return,
+            Record::Sync | Record::PowerCycle(_) => return,
             Record::Answer { .. } | Record::Cut(_) => {}
         }
     }

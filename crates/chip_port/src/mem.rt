@@ -10,7 +10,7 @@ ghost use Rattle.chip_port.specs.MemSeen.{StartsBlank};
 
 use crate::chip::{Bench, Chip, Tear};
 use crate::counts::{Counts, Plan, Turn};
-use crate::medium::{Medium, Rises};
+use crate::medium::{Medium, Survives};
 use iot_bytes::{Failed, NoMemory, Row};
 use std::alloc::Global;
 
@@ -284,12 +284,12 @@ impl Bench for MemChip {
         ensures works { IsOk result }
     {
         if !self.woken {
-            let rises = match self.counts.cut {
-                Some(Tear::Old) => Rises::Synced,
-                Some(Tear::Junk) => Rises::Junk,
-                Some(Tear::New) | Some(Tear::Half) | None => Rises::Content,
+            let survives = match self.counts.cut {
+                Some(Tear::Old) => Survives::Synced,
+                Some(Tear::Junk) => Survives::Junk,
+                Some(Tear::New) | Some(Tear::Half) | None => Survives::Content,
             };
-            self.medium.wake(rises);
+            self.medium.power_cycle(survives);
             self.woken = true;
         }
         self.counts.cut = None;

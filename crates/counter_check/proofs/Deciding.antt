@@ -10,7 +10,7 @@ use Rattle.small_card.specs.Histories.{History, card_of, full_of, kept}
 use Rattle.small_card.specs.Laws.{IsCounted}
 use Rattle.small_card.specs.Legal.{IsLegal}
 use Rattle.small_card.specs.Lists.{same, Every, EveryPair}
-use Rattle.small_card.specs.Managers.{is_eim, has_eim}
+use Rattle.small_card.specs.EimOperations.{is_eim, has_eim}
 use Rattle.small_card.specs.Valid.{AreEntriesApart}
 use Rattle.small_card.specs.declared.types.EimEntry.{EimEntry}
 use Rattle.small_card.specs.declared.types.Package.{Package}
@@ -69,29 +69,29 @@ named_association id n e (x ∷ xs) f h =
       | false ↦ λ is g. named_association id n e xs g h.1
     ] refl f
 
-valid_apart : (h : History) → IsLegal h → EveryPair AreEntriesApart (card_of h).managers.entries
+valid_apart : (h : History) → IsLegal h → EveryPair AreEntriesApart (card_of h).eims.entries
 unfolding full_of
-valid_apart h l = (legal_valid h l).card.managers.apart
+valid_apart h l = (legal_valid h l).card.eims.apart
 
-pub association_decides : (h : History) (id : List ℕ) (n : ℕ) (e : EimEntry) → IsLegal h → find (is_eim id) (card_of h).managers.entries ≡ Some e → has_association id n (card_of h).managers.entries ≡ (e.association == n)
+pub association_decides : (h : History) (id : List ℕ) (n : ℕ) (e : EimEntry) → IsLegal h → find (is_eim id) (card_of h).eims.entries ≡ Some e → has_association id n (card_of h).eims.entries ≡ (e.association == n)
 unfolding has_association
-association_decides h id n e l f = named_association id n e (card_of h).managers.entries f (valid_apart h l)
+association_decides h id n e l f = named_association id n e (card_of h).eims.entries f (valid_apart h l)
 
 -- the entry's counter is the one that the history keeps
-pub counter_kept : (h : History) (id : List ℕ) (n : ℕ) (e : EimEntry) → IsLegal h → find (is_eim id) (card_of h).managers.entries ≡ Some e → e.association ≡ n → kept h id n ≡ e.counter
+pub counter_kept : (h : History) (id : List ℕ) (n : ℕ) (e : EimEntry) → IsLegal h → find (is_eim id) (card_of h).eims.entries ≡ Some e → e.association ≡ n → kept h id n ≡ e.counter
 unfolding IsCounted
 counter_kept h id n e l f is =
-    let c = found_every (is_eim id) (λ x. x.counter ≡ kept h x.id x.association) (card_of h).managers.entries e f (legal_counted h l) in
+    let c = found_every (is_eim id) (λ x. x.counter ≡ kept h x.id x.association) (card_of h).eims.entries e f (legal_counted h l) in
     ap (λ i. kept h i n) (same_yes id e.id c.0) ∙ ap (λ m. kept h e.id m) (sym is) ∙ sym c.1
 
 -- what the checks after the verdict look at
 pub record LooksAt (h : History) (p : Package) (eid : List ℕ) (e : EimEntry) (rs : Results) : Type 0 where
   pub eid_is : (card_of h).eid ≡ eid
   pub results_are : (card_of h).results ≡ rs
-  pub named : has_association p.eim p.association (card_of h).managers.entries ≡ (e.association == p.association)
+  pub named : has_association p.eim p.association (card_of h).eims.entries ≡ (e.association == p.association)
   pub counted : e.association ≡ p.association → kept h p.eim p.association ≡ e.counter
 
-pub looks_at : (h : History) (p : Package) (eid : List ℕ) (e : EimEntry) (rs : Results) → IsLegal h → (card_of h).eid ≡ eid → (card_of h).results ≡ rs → find (is_eim p.eim) (card_of h).managers.entries ≡ Some e → LooksAt h p eid e rs
+pub looks_at : (h : History) (p : Package) (eid : List ℕ) (e : EimEntry) (rs : Results) → IsLegal h → (card_of h).eid ≡ eid → (card_of h).results ≡ rs → find (is_eim p.eim) (card_of h).eims.entries ≡ Some e → LooksAt h p eid e rs
 looks_at h p eid e rs l a b f = record {
   eid_is = a;
   results_are = b;
@@ -133,13 +133,13 @@ pub passes : (h : History) (p : Package) (eid : List ℕ) (e : EimEntry) (rs : R
 unfolding later_refusal
 passes h p eid e rs at own is above room = rw (at.eid_is, was (same p.eid eid) own, at.named, eq-eqb e.association p.association is, at.counted is, above_leb p.counter e.counter above, at.results_are, room) refl
 
-pub unknown_eim : (h : History) (good : Bool) (p : Package) → find (is_eim p.eim) (card_of h).managers.entries ≡ None → package_refusal h good p ≡ Some (refused 2)
+pub unknown_eim : (h : History) (good : Bool) (p : Package) → find (is_eim p.eim) (card_of h).eims.entries ≡ None → package_refusal h good p ≡ Some (refused 2)
 unfolding package_refusal eim_refusal has_eim
-unknown_eim h good p f = rw (found_none (is_eim p.eim) (card_of h).managers.entries f) refl
+unknown_eim h good p f = rw (found_none (is_eim p.eim) (card_of h).eims.entries f) refl
 
-pub known_eim : (h : History) (good : Bool) (p : Package) (e : EimEntry) → find (is_eim p.eim) (card_of h).managers.entries ≡ Some e → package_refusal h good p ≡ option_or (verdict_refusal good) (later_refusal (card_of h) (kept h p.eim p.association) p)
+pub known_eim : (h : History) (good : Bool) (p : Package) (e : EimEntry) → find (is_eim p.eim) (card_of h).eims.entries ≡ Some e → package_refusal h good p ≡ option_or (verdict_refusal good) (later_refusal (card_of h) (kept h p.eim p.association) p)
 unfolding package_refusal eim_refusal has_eim
-known_eim h good p e f = rw (found_some (is_eim p.eim) (card_of h).managers.entries e f) refl
+known_eim h good p e f = rw (found_some (is_eim p.eim) (card_of h).eims.entries e f) refl
 
 pub too_long : (h : History) (good : Bool) (bytes : List ℕ) → most_octets < length bytes → check h good bytes ≡ Err (refused 8)
 unfolding check

@@ -1,10 +1,10 @@
 -- A load that was read, and the card that it is checked against.
 use Rattle.std.specs.Prelude.{ℕ, ◌≡◌, ◌≤◌, ◌<◌, Bool, true, List, length, find, Some, None, Result}
-use Rattle.small_card.specs.Cards.{Managers, Results}
+use Rattle.small_card.specs.Cards.{EimList, Results}
 use Rattle.small_card.specs.Histories.{History, card_of}
 use Rattle.small_card.specs.Legal.{IsLegal}
 use Rattle.small_card.specs.Checks.{has_room, value_refusal}
-use Rattle.small_card.specs.Managers.{is_eim}
+use Rattle.small_card.specs.EimOperations.{is_eim}
 use Rattle.small_card.specs.Ranges.{IsSigned}
 use Rattle.small_card.specs.declared.types.EimEntry.{EimEntry}
 use Rattle.small_card.specs.declared.types.Package.{Package}
@@ -28,7 +28,7 @@ pub record IsForEntry (p : Package) (eid : List ℕ) (entry : EimEntry) (store :
   pub room : has_room store ≡ true
 
 -- The eIM has an entry, the verdict is good, and the package is for this card and this entry.
-pub record Passes (request : Request) (eid : List ℕ) (eims : Managers) (store : Results) : Type 0 where
+pub record Passes (request : Request) (eid : List ℕ) (eims : EimList) (store : Results) : Type 0 where
   pub entry : EimEntry
   pub found : find (is_eim request.load.eim) eims.entries ≡ Some entry
   pub verdict : request.good ≡ true
@@ -43,10 +43,10 @@ pub record IsRead (good : Bool) (bytes : List ℕ) (request : Request) : Type 0 
   pub load : spelled.«package» ≡ request.load
 
 -- A legal history whose card has this EID, these eIMs and these pending results, with the next numbers.
-pub record IsCardOf (h : History) (eid : List ℕ) (eims : Managers) (store : Results) : Type 0 where
+pub record IsCardOf (h : History) (eid : List ℕ) (eims : EimList) (store : Results) : Type 0 where
   pub legal : IsLegal h
   pub eid_is : (card_of h).eid ≡ eid
-  pub eims_are : (card_of h).managers ≡ eims
+  pub eims_are : (card_of h).eims ≡ eims
   pub results_are : (card_of h).results ≡ store
 
 -- What the checks behind length and grammar answer.

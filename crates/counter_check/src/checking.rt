@@ -2,7 +2,7 @@ ghost use Rattle.std.specs.Prelude.{◌≡◌, Some, Ok, Err, find, MatchOption,
 ghost use Rattle.small_card.specs.Checks.{later_refusal};
 ghost use Rattle.small_card.specs.Histories.{History, card_of, kept};
 ghost use Rattle.small_card.specs.Legal.{IsLegal};
-ghost use Rattle.small_card.specs.Managers.{is_eim};
+ghost use Rattle.small_card.specs.EimOperations.{is_eim};
 ghost use Rattle.small_card.specs.Ranges.{IsPackage};
 ghost use Rattle.package_codec.specs.Checks.{package_refusal};
 ghost use Rattle.counter_check.specs.Loads.{IsCardOf, IsForEntry, Passes, check_request};
@@ -38,7 +38,7 @@ impl Model for Checked {
 fn entry_refusal(load: &Package, eid: &Eid, entry: &EimEntry, store: &Store) -> Option<Refused>
     ensures passes { MatchOption result (IsForEntry load.now eid.now entry.now store.now) (λ _. ¬ IsForEntry load.now eid.now entry.now store.now) }
     ensures first { (h : History) → IsLegal h → (card_of h).eid ≡ eid.now → (card_of h).results ≡ store.now
-        → find (is_eim load.now.eim) (card_of h).managers.entries ≡ Some entry.now
+        → find (is_eim load.now.eim) (card_of h).eims.entries ≡ Some entry.now
         → later_refusal (card_of h) (kept h load.now.eim load.now.association) load.now ≡ result }
 {
     if load.eid != *eid {

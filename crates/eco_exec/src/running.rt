@@ -1,5 +1,5 @@
 ghost use Rattle.std.specs.Prelude.{◌≡◌, [], None, IfOk};
-ghost use Rattle.small_card.specs.Managers.{do_eco};
+ghost use Rattle.small_card.specs.EimOperations.{do_eco};
 ghost use Rattle.small_card.specs.Packages.{run_ecos, execute};
 ghost use Rattle.small_card.specs.declared.types.Body.TheVariants.{Ecos};
 ghost use Rattle.small_card.specs.declared.types.Profile.{Profile};
@@ -79,7 +79,7 @@ fn run_ecos(
 pub fn run(alloc: Global, eims: Eims, ops: &Row<Eco>) -> Result<EcoDone, NoMemory>
     ensures executed { IfOk result (λ done. (profiles : List Profile)
         → execute profiles eims (Ecos ops.now)
-        ≡ record { profiles = profiles; managers = done.eims; items = done.items; armed = None }) }
+        ≡ record { profiles = profiles; eims = done.eims; items = done.items; armed = None }) }
 {
     run_ecos(
         alloc,

@@ -62,7 +62,7 @@ fn an_association_is_given_once(rt: HostRuntime) -> Result<(), Fail> {
 }
 
 #[test]
-fn the_last_manager_leaves(rt: HostRuntime) -> Result<(), Fail> {
+fn the_last_eim_leaves(rt: HostRuntime) -> Result<(), Fail> {
     let ops = [delete(b"e1")?, Eco::List];
     assert_eq!(rt; told(&rt, &ops)?.as_str(), " drop=2 eims=0");
     Ok(())

@@ -6,9 +6,9 @@ use Rattle.std.proofs.lemmas.Bool.{cond_both, true≢false, and_parts, and_from,
 use Rattle.std.proofs.lemmas.List.{length-append, length-map}
 use Rattle.small_card.specs.Lists.{Every, EveryPair, without}
 use Rattle.small_card.specs.Pairs.{each_pair, are_entries_apart}
-use Rattle.small_card.specs.Cards.{Managers}
-use Rattle.small_card.specs.Managers.{is_eim, has_eim, without_eim, with_fields, updated, counted, with_counter, added, last_association, do_eco}
-use Rattle.small_card.specs.Valid.{IsEntry, AreEntriesApart, AreManagers}
+use Rattle.small_card.specs.Cards.{EimList}
+use Rattle.small_card.specs.EimOperations.{is_eim, has_eim, without_eim, with_fields, updated, counted, with_counter, added, last_association, do_eco}
+use Rattle.small_card.specs.Valid.{IsEntry, AreEntriesApart, AreEims}
 use Rattle.small_card.specs.declared.types.EimEntry.{EimEntry}
 use Rattle.small_card.specs.declared.types.Eco.TheVariants as eco
 use Rattle.small_card.specs.declared.types.Item.{Item}
@@ -17,7 +17,7 @@ use Rattle.small_card.proofs.ListLemmas.{same_yes, same_no, pair_mono, removed_p
 use Rattle.small_card.proofs.PairTests.{each_take, each_again, pairs_take, pairs_again, entry_pairs}
 use Rattle.eim_table.specs.Entries.{IsGiven, IsEims, IsInRange, is_given, are_eims}
 
-pub valid_eims : (ms : Managers) → AreManagers ms → IsEims ms
+pub valid_eims : (ms : EimList) → AreEims ms → IsEims ms
 valid_eims ms h = record {
   few = h.few;
   each = every_mono (IsEntry ms.next) (IsGiven ms.next) (λ e n. record { some = n.some; given = n.given }) ms.entries h.each;
@@ -25,10 +25,10 @@ valid_eims ms h = record {
   next = h.next;
 }
 
-pub valid_ranges : (ms : Managers) → AreManagers ms → Every IsInRange ms.entries
+pub valid_ranges : (ms : EimList) → AreEims ms → Every IsInRange ms.entries
 valid_ranges ms h = every_mono (IsEntry ms.next) IsInRange (λ e n. record { id = n.id; address = n.address; key = n.key; counter = n.counter }) ms.entries h.each
 
-pub eims_valid : (ms : Managers) → IsEims ms → Every IsInRange ms.entries → AreManagers ms
+pub eims_valid : (ms : EimList) → IsEims ms → Every IsInRange ms.entries → AreEims ms
 eims_valid ms h r = record {
   few = h.few;
   each = every_both (IsGiven ms.next) IsInRange (IsEntry ms.next)
@@ -45,7 +45,7 @@ given_takes next e h =
 given_again : (next : ℕ) (e : EimEntry) → IsGiven next e → is_given next e ≡ true
 given_again next e h = and_from _ _ (le-leb 1 e.association h.some) (lt-ltb e.association next h.given)
 
-tested_eims : (ms : Managers) → ms.next ≤ 4294967295 → are_eims ms ≡ true → IsEims ms
+tested_eims : (ms : EimList) → ms.next ≤ 4294967295 → are_eims ms ≡ true → IsEims ms
 unfolding are_eims
 tested_eims ms fits e =
     let rest = nat_le 1 ms.next && (list_all (is_given ms.next) ms.entries && each_pair are_entries_apart ms.entries) in
@@ -59,7 +59,7 @@ tested_eims ms fits e =
       next = record { some = leb-true 1 ms.next b.0; fits = fits };
     }
 
-eims_tested : (ms : Managers) → IsEims ms → are_eims ms ≡ true
+eims_tested : (ms : EimList) → IsEims ms → are_eims ms ≡ true
 unfolding are_eims
 eims_tested ms h =
     and_from _ _ (le-leb (length ms.entries) 8 h.few)
@@ -67,7 +67,7 @@ eims_tested ms h =
     (and_from _ _ (each_again (is_given ms.next) (IsGiven ms.next) (given_again ms.next) ms.entries h.each) (pairs_again entry_pairs ms.entries h.apart)))
 
 -- the test says exactly whether the entries may stand in a table
-pub tested_exactly : (ms : Managers) → ms.next ≤ 4294967295 → (are_eims ms ≡ true) ↔ IsEims ms
+pub tested_exactly : (ms : EimList) → ms.next ≤ 4294967295 → (are_eims ms ≡ true) ↔ IsEims ms
 tested_exactly ms fits = (tested_eims ms fits, eims_tested ms)
 
 given_later : (n : ℕ) (e : EimEntry) → IsGiven n e → IsGiven (n + 1) e
@@ -157,11 +157,11 @@ no_eim id es e = no_place (is_eim id) es e
 pub add_done : (id address key : List ℕ) (es left : List EimEntry) (next : ℕ) → has_eim id es ≡ false → length es < 8 → next < 4294967295 → left ≡ es ++ record { id = id; address = address; key = key; counter = 0; association = next } ∷ [] → (record { entries = left; next = next + 1 }, item.Add 0 next) ≡ do_eco (record { entries = es; next = next }) (eco.Add id address key)
 unfolding do_eco added last_association
 add_done id address key es left next fresh few room is =
-    let ms : Managers = record { entries = es; next = next } in
-    let end : Managers × Item = (record { entries = left; next = next + 1 }, item.Add 0 next) in
-    cond_both {A = Managers × Item} (has_eim id es) (ms, item.Add 1 0) _ (λ r. end ≡ r) (λ t. absurd (true≢false (sym t ∙ fresh))) (λ _.
-    cond_both {A = Managers × Item} (nat_le 8 (length es)) (ms, item.Add 2 0) _ (λ r. end ≡ r) (λ t. absurd (omega (arith, leb-true 8 (length es) t, few))) (λ _.
-    cond_both {A = Managers × Item} (next == 4294967295) (ms, item.Add 3 0) (added id address key ms, item.Add 0 next) (λ r. end ≡ r) (λ t. absurd (omega (arith, eqb-true next 4294967295 t, room))) (λ _.
+    let ms : EimList = record { entries = es; next = next } in
+    let end : EimList × Item = (record { entries = left; next = next + 1 }, item.Add 0 next) in
+    cond_both {A = EimList × Item} (has_eim id es) (ms, item.Add 1 0) _ (λ r. end ≡ r) (λ t. absurd (true≢false (sym t ∙ fresh))) (λ _.
+    cond_both {A = EimList × Item} (nat_le 8 (length es)) (ms, item.Add 2 0) _ (λ r. end ≡ r) (λ t. absurd (omega (arith, leb-true 8 (length es) t, few))) (λ _.
+    cond_both {A = EimList × Item} (next == 4294967295) (ms, item.Add 3 0) (added id address key ms, item.Add 0 next) (λ r. end ≡ r) (λ t. absurd (omega (arith, eqb-true next 4294967295 t, room))) (λ _.
     ap (λ (xs : List EimEntry). (record { entries = xs; next = next + 1 }, item.Add 0 next)) is)))
 
 -- one entry whose association was given out

@@ -3,8 +3,8 @@ use Rattle.std.specs.Prelude.{ℕ, ◌≤◌, ◌<◌, ◌&&◌, nat_le, nat_lt,
 use Rattle.std.specs.List.{list_all}
 use Rattle.sgp_values.specs.Ranges.{IsEimId, IsAddress, IsKey}
 use Rattle.small_card.specs.Lists.{Every, EveryPair}
-use Rattle.small_card.specs.Cards.{Managers}
-use Rattle.small_card.specs.Managers.{is_eim}
+use Rattle.small_card.specs.Cards.{EimList}
+use Rattle.small_card.specs.EimOperations.{is_eim}
 use Rattle.small_card.specs.Pairs.{each_pair, are_entries_apart}
 use Rattle.small_card.specs.Ranges.{IsNumber, greatest_counter}
 use Rattle.small_card.specs.Valid.{AreEntriesApart}
@@ -16,7 +16,7 @@ pub record IsGiven (next : ℕ) (e : EimEntry) : Type 0 where
   pub given : e.association < next
 
 -- At most 8 entries have identifiers and associations of their own, and the next one is from 1.
-pub record IsEims (ms : Managers) : Type 0 where
+pub record IsEims (ms : EimList) : Type 0 where
   pub few : length ms.entries ≤ 8
   pub each : Every (IsGiven ms.next) ms.entries
   pub apart : EveryPair AreEntriesApart ms.entries
@@ -26,7 +26,7 @@ pub record IsEims (ms : Managers) : Type 0 where
 abbrev pub is_given : ℕ → EimEntry → Bool
 is_given next e = nat_le 1 e.association && nat_lt e.association next
 
-unfoldable pub are_eims : Managers → Bool
+unfoldable pub are_eims : EimList → Bool
 are_eims ms = nat_le (length ms.entries) 8 && (nat_le 1 ms.next && (list_all (is_given ms.next) ms.entries && each_pair are_entries_apart ms.entries))
 
 -- An entry's fields are in their ranges.

@@ -1,8 +1,8 @@
 -- The associations that operations give out.
 use Rattle.std.specs.Prelude.{ℕ, ◌≤◌, ◌<◌, ◌==◌, List, [], ◌∷◌, ◌++◌, if◌then◌else◌}
 use Rattle.small_card.specs.Lists.{Every, EveryPair}
-use Rattle.small_card.specs.Cards.{Managers}
-use Rattle.small_card.specs.Managers.{do_eco}
+use Rattle.small_card.specs.Cards.{EimList}
+use Rattle.small_card.specs.EimOperations.{do_eco}
 use Rattle.small_card.specs.declared.types.Eco.{Eco}
 use Rattle.small_card.specs.declared.types.Item.{Item}
 use Rattle.small_card.specs.declared.types.Item.TheVariants as item
@@ -13,12 +13,12 @@ given_by (item.Add code association) = if code == 0 then association ∷ [] else
 given_by it = []
 
 -- The operations are executed in turn, whatever comes of each.
-unfoldable pub after_ops : Managers → List Eco → Managers
+unfoldable pub after_ops : EimList → List Eco → EimList
 after_ops ms [] = ms
 after_ops ms (op ∷ ops) = after_ops (do_eco ms op).0 ops
 
 -- The associations that the operations give out, in their order.
-unfoldable pub given_out : Managers → List Eco → List ℕ
+unfoldable pub given_out : EimList → List Eco → List ℕ
 given_out ms [] = []
 given_out ms (op ∷ ops) = given_by (do_eco ms op).1 ++ given_out (do_eco ms op).0 ops
 

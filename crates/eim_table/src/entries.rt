@@ -5,7 +5,7 @@ ghost use Rattle.std.specs.List.{list_all};
 ghost use Rattle.std.specs.Option.{option_copied};
 ghost use Rattle.eim_table.specs.Entries.{is_given, are_eims};
 ghost use Rattle.small_card.specs.Lists.{EveryPair};
-ghost use Rattle.small_card.specs.Managers.{is_eim, has_eim, without_eim, line_of, with_fields, updated, counted, with_counter, is_empty_list};
+ghost use Rattle.small_card.specs.EimOperations.{is_eim, has_eim, without_eim, line_of, with_fields, updated, counted, with_counter, is_empty_list};
 ghost use Rattle.small_card.specs.Valid.{AreEntriesApart};
 
 use iot_bytes::{NoMemory, Reserve, Row};
@@ -15,7 +15,7 @@ use small_card::limits::MOST_EIMS;
 use small_card::{EimEntry, EimLine, are_all_apart};
 use std::alloc::Global;
 
-#[tactic(auto, unfolding(small_card::specs::Managers::has_eim))]
+#[tactic(auto, unfolding(small_card::specs::EimOperations::has_eim))]
 pub(crate) fn has_eim(entries: &[EimEntry], id: &EimId) -> bool
     ensures { result ≡ has_eim id.now entries.now }
 {
@@ -89,7 +89,7 @@ fn with_fields(
     }
 }
 
-#[tactic(auto, using(std::proofs::lemmas::List::Edits::map_over_more), unfolding(small_card::specs::Managers::updated))]
+#[tactic(auto, using(std::proofs::lemmas::List::Edits::map_over_more), unfolding(small_card::specs::EimOperations::updated))]
 pub(crate) fn set_fields(
     entries: &mut Reserve<EimEntry>,
     id: &EimId,
@@ -114,7 +114,7 @@ fn counted(entry: &EimEntry, id: &EimId, counter: u64) -> EimEntry
     EimEntry { counter, ..*entry }
 }
 
-#[tactic(auto, using(std::proofs::lemmas::List::Edits::map_over_more), unfolding(small_card::specs::Managers::with_counter))]
+#[tactic(auto, using(std::proofs::lemmas::List::Edits::map_over_more), unfolding(small_card::specs::EimOperations::with_counter))]
 pub(crate) fn set_counter(entries: &mut Reserve<EimEntry>, id: &EimId, counter: u64)
     ensures items { entries.new.items ≡ with_counter id.now counter entries.old.items }
     ensures room { entries.new.spare ≡ entries.old.spare }
@@ -125,7 +125,7 @@ pub(crate) fn set_counter(entries: &mut Reserve<EimEntry>, id: &EimId, counter: 
     }
 }
 
-#[tactic(auto, unfolding(small_card::specs::Managers::is_empty_list))]
+#[tactic(auto, unfolding(small_card::specs::EimOperations::is_empty_list))]
 pub(crate) fn deletion_code(left: &[EimEntry]) -> u8
     ensures { result ≡ (if is_empty_list left.now then 2 else 0) }
 {
@@ -135,7 +135,7 @@ pub(crate) fn deletion_code(left: &[EimEntry]) -> u8
     }
 }
 
-#[tactic(auto, unfolding(small_card::specs::Managers::line_of))]
+#[tactic(auto, unfolding(small_card::specs::EimOperations::line_of))]
 fn line_of(entry: &EimEntry) -> EimLine
     ensures { result ≡ line_of entry.now }
 {

@@ -10,7 +10,7 @@ mod entries;
 mod laws;
 mod table;
 
-pub use laws::{associations_are_new, managers_stand};
+pub use laws::{associations_are_new, eims_stand};
 pub use table::{AddEnd, Eims};
 
 #[cfg(test)]

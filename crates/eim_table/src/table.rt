@@ -1,5 +1,5 @@
 ghost use Rattle.std.specs.Prelude.{◌≡◌, ◌≢◌, ◌↔◌, ◌≤◌, [], ℕ, true, find, map, IfOk};
-ghost use Rattle.small_card.specs.Managers.{is_eim, line_of, with_counter, do_eco};
+ghost use Rattle.small_card.specs.EimOperations.{is_eim, line_of, with_counter, do_eco};
 ghost use Rattle.small_card.specs.declared.types.Eco.TheVariants as eco;
 ghost use Rattle.small_card.specs.declared.types.Item.TheVariants as item;
 ghost use Rattle.eim_table.specs.Adding.{item_of};
@@ -29,13 +29,13 @@ pub struct Eims {
 }
 
 impl Model for Eims {
-    ghost use Rattle.small_card.specs.Cards.{Managers};
+    ghost use Rattle.small_card.specs.Cards.{EimList};
 
-    ghost Value = { Managers };
+    ghost Value = { EimList };
 
-    ghost use Rattle.eim_table.specs.Fields.{managers_of, IsKept};
+    ghost use Rattle.eim_table.specs.Fields.{eims_of, IsKept};
 
-    ghost view = { managers_of };
+    ghost view = { eims_of };
 
     ghost invariant = { IsKept };
 }
@@ -92,7 +92,7 @@ impl Eims {
     ///
     /// It is refused where it has an entry, else where there are eight, else where the next association
     /// is 4,294,967,295.
-    #[tactic(auto, unfolding(small_card::specs::Managers::do_eco, small_card::specs::Managers::last_association, crate::specs::Adding::item_of))]
+    #[tactic(auto, unfolding(small_card::specs::EimOperations::do_eco, small_card::specs::EimOperations::last_association, crate::specs::Adding::item_of))]
     pub fn add(&mut self, id: EimId, address: Address, key: Key) -> AddEnd
         ensures operation { (self.new, item_of result) ≡ do_eco self.old (eco.Add id address key) }
         ensures refused { (code : ℕ) → result ≡ AddEnd.Refused code → self.new ≡ self.old }
@@ -123,7 +123,7 @@ impl Eims {
     /// Gives an eIM the fields that are named; its counter and its association stay. It takes no memory.
     ///
     /// Gives the code of [`Item::Update`](small_card::Item::Update): 0 done, 1 no entry.
-    #[tactic(auto, unfolding(small_card::specs::Managers::do_eco))]
+    #[tactic(auto, unfolding(small_card::specs::EimOperations::do_eco))]
     pub fn update(&mut self, id: &EimId, address: Option<Address>, key: Option<Key>) -> u8
         ensures operation { (self.new, item.Update result) ≡ do_eco self.old (eco.Update id.now address key) }
         ensures refused { result ≢ 0 → self.new ≡ self.old }
@@ -139,7 +139,7 @@ impl Eims {
     ///
     /// Gives the code of [`Item::Dropped`](small_card::Item::Dropped): 0 done, 1 no entry, 2 done and
     /// none is left.
-    #[tactic(auto, unfolding(small_card::specs::Managers::do_eco))]
+    #[tactic(auto, unfolding(small_card::specs::EimOperations::do_eco))]
     pub fn delete(&mut self, id: &EimId) -> u8
         ensures operation { (self.new, item.Dropped result) ≡ do_eco self.old (eco.Delete id.now) }
         ensures refused { result ≡ 1 → self.new ≡ self.old }
@@ -191,7 +191,7 @@ impl Eims {
     }
 
     /// The entries without their keys, as the operation that lists them shows them.
-    #[tactic(auto, unfolding(small_card::specs::Managers::do_eco))]
+    #[tactic(auto, unfolding(small_card::specs::EimOperations::do_eco))]
     pub fn list(&self, alloc: Global) -> Result<Row<EimLine>, NoMemory>
         ensures lines { IfOk result (λ rows. rows ≡ map line_of self.now.entries) }
         ensures operation { IfOk result (λ rows. (self.now, item.Eims rows) ≡ do_eco self.now eco.List) }

@@ -1,11 +1,11 @@
 -- What a card's parts tell of the histories that it stands for, and each kind of step.
 use Rattle.std.proofs.Common.{◌≡◌, ◌≢◌, ℕ, ◌≤◌, ◌<◌, Bool, true, false, not, cond, List, [], ◌∷◌, map, arith, refl, ◌∙◌, ap, sym, subst, Option, None, Some, Ok, Err}
 use Rattle.std.specs.Prelude.{◌==◌, ◌↔◌, MatchOption, IsSome}
-use Rattle.small_card.specs.Cards.{SmallCard, FullCard, Managers, Results}
+use Rattle.small_card.specs.Cards.{SmallCard, FullCard, EimList, Results}
 use Rattle.small_card.specs.Checks.{value_refusal}
 use Rattle.small_card.specs.Histories.{History, card_of, former_of, full_of, kept, with_unit}
 use Rattle.small_card.specs.Legal.{IsLegal, IsLegalFrom, May}
-use Rattle.small_card.specs.Managers.{has_eim, line_of, is_empty_list, last_association, do_eco}
+use Rattle.small_card.specs.EimOperations.{has_eim, line_of, is_empty_list, last_association, do_eco}
 use Rattle.small_card.specs.Packages.{Executed, execute, executed, result_of, with_result, armed_with, armed_by}
 use Rattle.small_card.specs.Ranges.{IsPackage, IsCommand, IsAnswer}
 use Rattle.small_card.specs.Steps.{step_full, armed_after}
@@ -35,7 +35,7 @@ use Rattle.small_card.proofs.Looking.{full_more}
 use Rattle.small_card.proofs.Validity.{legal_valid, full_start}
 use Rattle.package_codec.specs.Checks.{check, check_read, package_refusal, unless_refused}
 use Rattle.package_codec.specs.Replies.{reply, unit_of, unit_of_load, unit_of_rollback, grown, after, load_reply, rollback_reply}
-use Rattle.small_card.specs.Managers.{with_counter, added}
+use Rattle.small_card.specs.EimOperations.{with_counter, added}
 use Rattle.small_card.specs.declared.types.Psmo.{Psmo}
 use Rattle.small_card.specs.declared.types.Eco.{Eco}
 use Rattle.small_card.specs.declared.types.Item.{Item}
@@ -134,7 +134,7 @@ request_accepted h good p q e =
     (ap (λ (x : Signed). x.«package») read ∙ a.0.2, a.1)
 
 -- its eIM's entry has a lower counter
-pub may_count : (request : Request) (eid : List ℕ) (eims : Managers) (store : Results) → Passes request eid eims store → MayCount request.load.eim request.load.counter eims.entries
+pub may_count : (request : Request) (eid : List ℕ) (eims : EimList) (store : Results) → Passes request eid eims store → MayCount request.load.eim request.load.counter eims.entries
 may_count request eid eims store p = subst (λ (o : Option EimEntry). MatchOption o ⊥ (λ e. e.counter < request.load.counter)) (sym p.found) p.fits.above
 
 -- the card after a package whose operations left this
@@ -143,7 +143,7 @@ after_package f p x = record {
   card = record {
     eid = f.card.eid;
     profiles = x.profiles;
-    managers = x.managers;
+    eims = x.eims;
     results = with_result (numbered f.card.results.next p.eim p.association p.counter x.items) f.card.results;
   };
   armed = armed_with f.card.results.next x.armed;
@@ -154,17 +154,17 @@ unfolding step_full after_unit loaded armed_after armed_by result_of after_packa
 made f p x e = ap (after_package f p) e
 
 -- the operations were executed on copies, once the counter was kept
-pub executed_on : (c : SmallCard) (p : Package) (copy ms : Managers) (x : Executed) → copy ≡ c.managers → ms ≡ record copy { entries = with_counter p.eim p.counter copy.entries } → execute c.profiles ms p.body ≡ x → executed c p ≡ x
+pub executed_on : (c : SmallCard) (p : Package) (copy ms : EimList) (x : Executed) → copy ≡ c.eims → ms ≡ record copy { entries = with_counter p.eim p.counter copy.entries } → execute c.profiles ms p.body ≡ x → executed c p ≡ x
 unfolding executed
 executed_on c p copy ms x same counted done =
-    let all : ms ≡ record c.managers { entries = with_counter p.eim p.counter c.managers.entries } = counted ∙ ap (λ (ns : Managers). record ns { entries = with_counter p.eim p.counter ns.entries }) same in
-    ap (λ (ns : Managers). execute c.profiles ns p.body) (sym all) ∙ done
+    let all : ms ≡ record c.eims { entries = with_counter p.eim p.counter c.eims.entries } = counted ∙ ap (λ (ns : EimList). record ns { entries = with_counter p.eim p.counter ns.entries }) same in
+    ap (λ (ns : EimList). execute c.profiles ns p.body) (sym all) ∙ done
 
 with_numbered : Package → Executed → Results → Results
 with_numbered p x rs = with_result (numbered rs.next p.eim p.association p.counter x.items) rs
 
 parts : (f : FullCard) (p : Package) (x : Executed) (copy rs : Results) (seq : ℕ) (armed : Option Armed) → copy ≡ f.card.results → seq ≡ copy.next → rs ≡ with_result (numbered copy.next p.eim p.association p.counter x.items) copy → armed ≡ armed_with seq x.armed
-    → record { card = record { eid = f.card.eid; profiles = x.profiles; managers = x.managers; results = rs }; armed = armed } ≡ after_package f p x
+    → record { card = record { eid = f.card.eid; profiles = x.profiles; eims = x.eims; results = rs }; armed = armed } ≡ after_package f p x
 unfolding after_package with_numbered
 parts f p x copy rs seq armed same number kept is =
     let results : rs ≡ with_numbered p x f.card.results = kept ∙ ap (with_numbered p x) same in
@@ -172,7 +172,7 @@ parts f p x copy rs seq armed same number kept is =
     cc (results, now)
 
 pub took : (f : FullCard) (p : Package) (x : Executed) (copy rs : Results) (seq : ℕ) (armed : Option Armed) → executed f.card p ≡ x → copy ≡ f.card.results → seq ≡ copy.next → rs ≡ with_result (numbered copy.next p.eim p.association p.counter x.items) copy → armed ≡ armed_with seq x.armed
-    → record { card = record { eid = f.card.eid; profiles = x.profiles; managers = x.managers; results = rs }; armed = armed } ≡ step_full f (load p)
+    → record { card = record { eid = f.card.eid; profiles = x.profiles; eims = x.eims; results = rs }; armed = armed } ≡ step_full f (load p)
 took f p x copy rs seq armed e same number kept is = parts f p x copy rs seq armed same number kept is ∙ sym (made f p x e)
 
 -- the result that is answered
@@ -183,14 +183,14 @@ result_is c p x copy seq items e same number shown =
     let all : items ≡ (executed c p).items = shown ∙ ap (λ (y : Executed). y.items) (sym e) in
     ap (λ n. numbered n p.eim p.association p.counter items) is ∙ ap (numbered c.results.next p.eim p.association p.counter) all
 
-pub psmos_executed : (ps before table : List Profile) (ms : Managers) (body : Body) (ops : List Psmo) (items : List Item) (armed : Option (List ℕ)) → body ≡ Psmos ops → before ≡ ps
-    → ((ns : Managers) → execute before ns (Psmos ops) ≡ record { profiles = table; managers = ns; items = items; armed = armed })
-    → execute ps ms body ≡ record { profiles = table; managers = ms; items = items; armed = armed }
+pub psmos_executed : (ps before table : List Profile) (ms : EimList) (body : Body) (ops : List Psmo) (items : List Item) (armed : Option (List ℕ)) → body ≡ Psmos ops → before ≡ ps
+    → ((ns : EimList) → execute before ns (Psmos ops) ≡ record { profiles = table; eims = ns; items = items; armed = armed })
+    → execute ps ms body ≡ record { profiles = table; eims = ms; items = items; armed = armed }
 psmos_executed ps before table ms body ops items armed is same done = ap (execute ps ms) is ∙ ap (λ (qs : List Profile). execute qs ms (Psmos ops)) (sym same) ∙ done ms
 
-pub ecos_executed : (ps before : List Profile) (ms eims : Managers) (body : Body) (ops : List Eco) (items : List Item) → body ≡ Ecos ops → before ≡ ps
-    → ((qs : List Profile) → execute qs ms (Ecos ops) ≡ record { profiles = qs; managers = eims; items = items; armed = None })
-    → execute ps ms body ≡ record { profiles = before; managers = eims; items = items; armed = None }
+pub ecos_executed : (ps before : List Profile) (ms eims : EimList) (body : Body) (ops : List Eco) (items : List Item) → body ≡ Ecos ops → before ≡ ps
+    → ((qs : List Profile) → execute qs ms (Ecos ops) ≡ record { profiles = qs; eims = eims; items = items; armed = None })
+    → execute ps ms body ≡ record { profiles = before; eims = eims; items = items; armed = None }
 ecos_executed ps before ms eims body ops items is same done = ap (execute ps ms) is ∙ ap (λ (qs : List Profile). execute qs ms (Ecos ops)) (sym same) ∙ done before
 
 pub roll_reply : (h : History) (armed : Armed) → former_of h ≡ Some armed → (answer.RolledBack (card_of h).results.next ≡ reply h command.Rollback) × (unit_of h command.Rollback ≡ Some rollback)
@@ -211,16 +211,16 @@ unfolding step_full after_unit armed_after rolled_back
 rolled_step f armed e = ap (λ (o : Option Armed). record { card = rolled_back o f.card; armed = None }) (sym e)
 
 -- the card with other parts
-abbrev pub with_parts : FullCard → List Profile → Managers → Results → Option Armed → FullCard
-with_parts f ps ms rs armed = record { card = record { eid = f.card.eid; profiles = ps; managers = ms; results = rs }; armed = armed }
+abbrev pub with_parts : FullCard → List Profile → EimList → Results → Option Armed → FullCard
+with_parts f ps ms rs armed = record { card = record { eid = f.card.eid; profiles = ps; eims = ms; results = rs }; armed = armed }
 
-same_parts : (f : FullCard) (ps qs : List Profile) (ms ns : Managers) (rs ts : Results) (a b : Option Armed) → ps ≡ qs → ms ≡ ns → rs ≡ ts → a ≡ b → with_parts f ps ms rs a ≡ with_parts f qs ns ts b
+same_parts : (f : FullCard) (ps qs : List Profile) (ms ns : EimList) (rs ts : Results) (a b : Option Armed) → ps ≡ qs → ms ≡ ns → rs ≡ ts → a ≡ b → with_parts f ps ms rs a ≡ with_parts f qs ns ts b
 same_parts f ps qs ms ns rs ts a b d e g k = cc (d, e, g, k)
 
-pub roll_parts : (f : FullCard) (armed : Armed) (before ps : List Profile) (ms : Managers) (copy rs : Results) → before ≡ f.card.profiles → ms ≡ f.card.managers → copy ≡ f.card.results → ps ≡ enabled_alone armed.former before → rs ≡ marked armed.seq copy → f.armed ≡ Some armed
+pub roll_parts : (f : FullCard) (armed : Armed) (before ps : List Profile) (ms : EimList) (copy rs : Results) → before ≡ f.card.profiles → ms ≡ f.card.eims → copy ≡ f.card.results → ps ≡ enabled_alone armed.former before → rs ≡ marked armed.seq copy → f.armed ≡ Some armed
     → with_parts f ps ms rs None ≡ step_full f rollback
 roll_parts f armed before ps ms copy rs p m r a b e =
-    same_parts f ps _ ms f.card.managers rs _ None None (a ∙ ap (enabled_alone armed.former) p) m (b ∙ ap (marked armed.seq) r) refl ∙ rolled_step f armed e
+    same_parts f ps _ ms f.card.eims rs _ None None (a ∙ ap (enabled_alone armed.former) p) m (b ∙ ap (marked armed.seq) r) refl ∙ rolled_step f armed e
 
 pub remove_reply : (h : History) (seq : ℕ) → is_pending seq (card_of h).results.pending ≡ true → (answer.Removed ≡ reply h (command.Remove seq)) × (unit_of h (command.Remove seq) ≡ Some (remove seq))
 unfolding reply unit_of
@@ -238,15 +238,15 @@ removed_step : (f : FullCard) (seq : ℕ) → record { card = record (f.card) { 
 unfolding step_full after_unit armed_after
 removed_step f seq = refl
 
-pub remove_parts : (f : FullCard) (seq : ℕ) (ps : List Profile) (ms : Managers) (copy rs : Results) (armed : Option Armed) → ps ≡ f.card.profiles → ms ≡ f.card.managers → copy ≡ f.card.results → rs ≡ without_result seq copy → armed ≡ unless_ended (remove seq ∷ []) f.armed
+pub remove_parts : (f : FullCard) (seq : ℕ) (ps : List Profile) (ms : EimList) (copy rs : Results) (armed : Option Armed) → ps ≡ f.card.profiles → ms ≡ f.card.eims → copy ≡ f.card.results → rs ≡ without_result seq copy → armed ≡ unless_ended (remove seq ∷ []) f.armed
     → with_parts f ps ms rs armed ≡ step_full f (remove seq)
-remove_parts f seq ps ms copy rs armed p m r a b = same_parts f ps f.card.profiles ms f.card.managers rs _ armed _ p m (a ∙ ap (without_result seq) r) b ∙ removed_step f seq
+remove_parts f seq ps ms copy rs armed p m r a b = same_parts f ps f.card.profiles ms f.card.eims rs _ armed _ p m (a ∙ ap (without_result seq) r) b ∙ removed_step f seq
 
 pub results_reply : (h : History) → (answer.Results (card_of h).results.pending ≡ reply h command.Results) × (unit_of h command.Results ≡ None)
 unfolding reply unit_of
 results_reply h = (refl, refl)
 
-pub eims_reply : (h : History) → (answer.Eims (map line_of (card_of h).managers.entries) ≡ reply h command.Eims) × (unit_of h command.Eims ≡ None)
+pub eims_reply : (h : History) → (answer.Eims (map line_of (card_of h).eims.entries) ≡ reply h command.Eims) × (unit_of h command.Eims ≡ None)
 unfolding reply unit_of
 eims_reply h = (refl, refl)
 
@@ -255,23 +255,23 @@ unfolding reply unit_of
 personal_reply h eid ps = (refl, refl)
 
 -- the first eIM: the card has one, or no association is left, or it joins
-pub eim_there : (h : History) (id address key : List ℕ) → not (is_empty_list (card_of h).managers.entries) ≡ true
+pub eim_there : (h : History) (id address key : List ℕ) → not (is_empty_list (card_of h).eims.entries) ≡ true
     → (answer.InitialRefused 1 ≡ reply h (command.Initial id address key)) × (unit_of h (command.Initial id address key) ≡ None)
 unfolding reply unit_of
 eim_there h id address key e = (rw e refl, rw e refl)
 
-pub none_left : (h : History) (id address key : List ℕ) → not (is_empty_list (card_of h).managers.entries) ≡ false → (card_of h).managers.next ≡ 4294967295
+pub none_left : (h : History) (id address key : List ℕ) → not (is_empty_list (card_of h).eims.entries) ≡ false → (card_of h).eims.next ≡ 4294967295
     → (answer.InitialRefused 2 ≡ reply h (command.Initial id address key)) × (unit_of h (command.Initial id address key) ≡ None)
 unfolding reply unit_of last_association
 none_left h id address key e last =
-    let test = eq-eqb (card_of h).managers.next 4294967295 last in
+    let test = eq-eqb (card_of h).eims.next 4294967295 last in
     (rw (e, test) refl, rw (e, test) refl)
 
-pub joins : (h : History) (id address key : List ℕ) → not (is_empty_list (card_of h).managers.entries) ≡ false → (card_of h).managers.next ≢ 4294967295
-    → (answer.Associated (card_of h).managers.next ≡ reply h (command.Initial id address key)) × (unit_of h (command.Initial id address key) ≡ Some (initial id address key))
+pub joins : (h : History) (id address key : List ℕ) → not (is_empty_list (card_of h).eims.entries) ≡ false → (card_of h).eims.next ≢ 4294967295
+    → (answer.Associated (card_of h).eims.next ≡ reply h (command.Initial id address key)) × (unit_of h (command.Initial id address key) ≡ Some (initial id address key))
 unfolding reply unit_of last_association
 joins h id address key e other =
-    let test = ne_eqb (card_of h).managers.next 4294967295 other in
+    let test = ne_eqb (card_of h).eims.next 4294967295 other in
     (rw (e, test) refl, rw (e, test) refl)
 
 empty_list : (es : List EimEntry) → not (is_empty_list es) ≡ false → es ≡ []
@@ -279,52 +279,52 @@ unfolding is_empty_list
 empty_list [] e = refl
 empty_list (x ∷ xs) e = absurd (true≢false e)
 
-next_fits : (h : History) → IsLegal h → (card_of h).managers.next ≤ 4294967295
+next_fits : (h : History) → IsLegal h → (card_of h).eims.next ≤ 4294967295
 unfolding full_of
-next_fits h l = (legal_valid h l).card.managers.next.fits
+next_fits h l = (legal_valid h l).card.eims.next.fits
 
-pub may_join : (h : History) (id address key : List ℕ) → IsLegal h → IsEimId id → IsAddress address → IsKey key → not (is_empty_list (card_of h).managers.entries) ≡ false → (card_of h).managers.next ≢ 4294967295 → May h (initial id address key)
+pub may_join : (h : History) (id address key : List ℕ) → IsLegal h → IsEimId id → IsAddress address → IsKey key → not (is_empty_list (card_of h).eims.entries) ≡ false → (card_of h).eims.next ≢ 4294967295 → May h (initial id address key)
 unfolding May last_association
 may_join h id address key l i a k e other = record {
   id = i;
   address = a;
   key = k;
-  empty = empty_list (card_of h).managers.entries e;
+  empty = empty_list (card_of h).eims.entries e;
   next = omega (arith, other, next_fits h l);
 }
 
-joined_step : (f : FullCard) (id address key : List ℕ) → record { card = record (f.card) { managers = (do_eco f.card.managers (eco.Add id address key)).0 }; armed = f.armed } ≡ step_full f (initial id address key)
+joined_step : (f : FullCard) (id address key : List ℕ) → record { card = record (f.card) { eims = (do_eco f.card.eims (eco.Add id address key)).0 }; armed = f.armed } ≡ step_full f (initial id address key)
 unfolding step_full after_unit armed_after
 joined_step f id address key = refl
 
 -- a history whose full card this is shows the card's parts
-pub shows : (h : History) (f : FullCard) → IsLegal h → full_of h ≡ f → IsCardOf h f.card.eid f.card.managers f.card.results
+pub shows : (h : History) (f : FullCard) → IsLegal h → full_of h ≡ f → IsCardOf h f.card.eid f.card.eims f.card.results
 shows h f l e = record {
   legal = l;
   eid_is = ap (λ (c : SmallCard). c.eid) (card_is h f e);
-  eims_are = ap (λ (c : SmallCard). c.managers) (card_is h f e);
+  eims_are = ap (λ (c : SmallCard). c.eims) (card_is h f e);
   results_are = ap (λ (c : SmallCard). c.results) (card_is h f e);
 }
 
 -- the same of the history without a unit
-pub alone_shows : (f : FullCard) → IsValid f → IsCardOf (record { start = f; units = [] }) f.card.eid f.card.managers f.card.results
+pub alone_shows : (f : FullCard) → IsValid f → IsCardOf (record { start = f; units = [] }) f.card.eid f.card.eims f.card.results
 alone_shows f v = shows (record { start = f; units = [] }) f (alone_legal f v) (alone_full f)
 
-pub joined_parts : (f : FullCard) (id address key : List ℕ) (ps : List Profile) (copy ms : Managers) (rs : Results) → ps ≡ f.card.profiles → copy ≡ f.card.managers → rs ≡ f.card.results → ms ≡ (do_eco copy (eco.Add id address key)).0
+pub joined_parts : (f : FullCard) (id address key : List ℕ) (ps : List Profile) (copy ms : EimList) (rs : Results) → ps ≡ f.card.profiles → copy ≡ f.card.eims → rs ≡ f.card.results → ms ≡ (do_eco copy (eco.Add id address key)).0
     → with_parts f ps ms rs f.armed ≡ step_full f (initial id address key)
 joined_parts f id address key ps copy ms rs p m r e =
-    same_parts f ps f.card.profiles ms _ rs f.card.results f.armed f.armed p (e ∙ ap (λ (ns : Managers). (do_eco ns (eco.Add id address key)).0) m) r refl ∙ joined_step f id address key
+    same_parts f ps f.card.profiles ms _ rs f.card.results f.armed f.armed p (e ∙ ap (λ (ns : EimList). (do_eco ns (eco.Add id address key)).0) m) r refl ∙ joined_step f id address key
 
 -- a first eIM, where there is none: it is added, or no association is left
 first_added : (id address key : List ℕ) (es : List EimEntry) (next : ℕ) → not (is_empty_list es) ≡ false → (do_eco (record { entries = es; next = next }) (eco.Add id address key)).1 ≡ cond (next == last_association) (item.Add 3 0) (item.Add 0 next)
 unfolding do_eco has_eim is_empty_list
 first_added id address key [] next e =
-    cond_both {A = Managers × Item} (next == last_association) (record { entries = []; next = next }, item.Add 3 0) (added id address key (record { entries = []; next = next }), item.Add 0 next)
+    cond_both {A = EimList × Item} (next == last_association) (record { entries = []; next = next }, item.Add 3 0) (added id address key (record { entries = []; next = next }), item.Add 0 next)
     (λ r. r.1 ≡ cond (next == last_association) (item.Add 3 0) (item.Add 0 next)) (λ k. ap (λ b. cond b (item.Add 3 0) (item.Add 0 next)) (sym k)) (λ k. ap (λ b. cond b (item.Add 3 0) (item.Add 0 next)) (sym k))
 first_added id address key (x ∷ es) next e = absurd (true≢false e)
 
 -- the item of a refused addition tells that none is left, and that of an addition that one was
-pub refused_last : (id address key : List ℕ) (ms : Managers) (code : ℕ) → not (is_empty_list ms.entries) ≡ false → 1 ≤ ms.next → (do_eco ms (eco.Add id address key)).1 ≡ item.Add code 0 → ms.next ≡ 4294967295
+pub refused_last : (id address key : List ℕ) (ms : EimList) (code : ℕ) → not (is_empty_list ms.entries) ≡ false → 1 ≤ ms.next → (do_eco ms (eco.Add id address key)).1 ≡ item.Add code 0 → ms.next ≡ 4294967295
 unfolding last_association
 refused_last id address key ms code e some is =
     let made = sym (first_added id address key ms.entries ms.next e) ∙ is in
@@ -333,7 +333,7 @@ refused_last id address key ms code e some is =
       | false ↦ λ k f. let zero_next : ms.next ≡ 0 = cc in absurd (omega (arith, zero_next, some))
     ] refl made
 
-pub added_next : (id address key : List ℕ) (ms : Managers) (n : ℕ) → not (is_empty_list ms.entries) ≡ false → 1 ≤ n → (do_eco ms (eco.Add id address key)).1 ≡ item.Add 0 n → ms.next ≢ 4294967295
+pub added_next : (id address key : List ℕ) (ms : EimList) (n : ℕ) → not (is_empty_list ms.entries) ≡ false → 1 ≤ n → (do_eco ms (eco.Add id address key)).1 ≡ item.Add 0 n → ms.next ≢ 4294967295
 unfolding last_association
 added_next id address key ms n e some is last =
     let made = sym (first_added id address key ms.entries ms.next e) ∙ is in
@@ -345,9 +345,9 @@ added_next id address key ms n e some is last =
 pub none_pending : (s b : Bool) → (s ≡ true) ↔ (b ≡ true) → s ≡ false → b ≡ false
 none_pending s b both e = false_from_ne_true b (λ k. true≢false (sym (both.1 k) ∙ e))
 
-pub next_some : (h : History) → IsLegal h → 1 ≤ (card_of h).managers.next
+pub next_some : (h : History) → IsLegal h → 1 ≤ (card_of h).eims.next
 unfolding full_of
-next_some h l = (legal_valid h l).card.managers.next.some
+next_some h l = (legal_valid h l).card.eims.next.some
 
 -- after a turn the card is valid
 pub turned_valid : (h : History) (c : Command) (f : FullCard) (end : Turn) → IsValid f → IsTurn h c f end → IsValid (left_by f end)

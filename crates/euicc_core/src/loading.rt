@@ -30,7 +30,7 @@ struct Executed {
 // Executes operations on these eIMs, or on a copy of these profiles.
 fn execute(alloc: Global, profiles: &Table, eims: Eims, body: &Body) -> Result<Executed, NoMemory>
     ensures executed { IfOk result (λ end. execute profiles.now eims body.now
-        ≡ record { profiles = end.profiles; managers = end.eims; items = end.items; armed = end.armed }) }
+        ≡ record { profiles = end.profiles; eims = end.eims; items = end.items; armed = end.armed }) }
 {
     let profiles = profiles.copy(alloc)?;
     match body {

@@ -1,6 +1,6 @@
 ghost use Rattle.std.specs.Prelude.{◌≡◌, [], ◌∷◌, not, Some, IfOk};
 ghost use Rattle.sgp_values.specs.Ranges.{IsEimId, IsAddress, IsKey};
-ghost use Rattle.small_card.specs.Managers.{is_empty_list};
+ghost use Rattle.small_card.specs.EimOperations.{is_empty_list};
 ghost use Rattle.small_card.specs.Histories.{unless_ended};
 ghost use Rattle.small_card.specs.Units.{remove as removal};
 ghost use Rattle.small_card.specs.Valid.{IsValid};
@@ -81,7 +81,7 @@ pub(crate) fn remove(alloc: Global, card: &Card, seq: u32) -> Result<Turn, NoMem
 }
 
 // Whether the card has an eIM.
-#[tactic(auto, unfolding(small_card::specs::Managers::is_empty_list))]
+#[tactic(auto, unfolding(small_card::specs::EimOperations::is_empty_list))]
 fn has_eims(eims: &Eims) -> bool
     ensures some { result ≡ not (is_empty_list eims.now.entries) }
 {

@@ -5,7 +5,7 @@ use Rattle.std.specs.List.{list_all, list_any}
 use Rattle.std.proofs.lemmas.Bool.{eqb-true, and_parts, and_from, or_cases, false_from_ne_true, leb-true, le-leb}
 use Rattle.sgp_values.specs.Iccids.{IsIccid}
 use Rattle.small_card.specs.Lists.{Every}
-use Rattle.small_card.specs.Cards.{SmallCard, FullCard, Managers, Results}
+use Rattle.small_card.specs.Cards.{SmallCard, FullCard, EimList, Results}
 use Rattle.small_card.specs.Pairs.{each_pair, are_profiles_apart}
 use Rattle.small_card.specs.Profiles.{is_iccid, has_profile}
 use Rattle.small_card.specs.Ranges.{IsProfile, IsTable, IsResult, greatest_counter}
@@ -76,7 +76,7 @@ armed_fits c (Some a) valid h =
     (former_fits a.former c.profiles valid.profiles.each k.former, omega (arith, seq_fits a.seq c.results.next c.results.pending valid.results.each k.result, k.room))
 
 pub valid_head : (f : FullCard) → IsValid f → IsHead (head_of f)
-valid_head f h = record { eid = h.card.eid; association = h.card.managers.next.fits; seq = h.card.results.next.fits; armed = armed_fits f.card f.armed h.card h.armed }
+valid_head f h = record { eid = h.card.eid; association = h.card.eims.next.fits; seq = h.card.results.next.fits; armed = armed_fits f.card f.armed h.card h.armed }
 
 armed_test : (c : SmallCard) (o : Option Armed) → ((a : Armed) → o ≡ Some a → IsArmed c a) → is_armed c.profiles c.results o ≡ true
 armed_test c None h = refl
@@ -93,13 +93,13 @@ armed_told c o e a is =
 pub valid_fits : (f : FullCard) → IsValid f → fits_together f ≡ true
 unfolding fits_together
 valid_fits f h =
-    let ms = h.card.managers in
+    let ms = h.card.eims in
     let rs = h.card.results in
     and_from _ _ (pairs_again profile_pairs f.card.profiles h.card.profiles.apart)
     (and_from _ _
     (and_from _ _
-    (and_from _ _ ((eims_exactly f.card.managers ms.next.fits).1 (valid_eims f.card.managers ms)) ((store_exactly f.card.results rs.next.fits).1 (valid_store f.card.results rs)))
-    (counted_again f.card.managers.entries (eims_ranges f.card.managers ms)))
+    (and_from _ _ ((eims_exactly f.card.eims ms.next.fits).1 (valid_eims f.card.eims ms)) ((store_exactly f.card.results rs.next.fits).1 (valid_store f.card.results rs)))
+    (counted_again f.card.eims.entries (eims_ranges f.card.eims ms)))
     (armed_test f.card f.armed h.armed))
 
 -- the parts of a card are in their ranges
@@ -107,19 +107,19 @@ pub record AreInRange (f : FullCard) : Type 0 where
   pub head : IsHead (head_of f)
   pub profiles_few : length f.card.profiles ≤ 16
   pub profiles : Every IsProfile f.card.profiles
-  pub eims_few : length f.card.managers.entries ≤ 8
-  pub eims : Every IsEimSlot f.card.managers.entries
+  pub eims_few : length f.card.eims.entries ≤ 8
+  pub eims : Every IsEimSlot f.card.eims.entries
   pub pending_few : length f.card.results.pending ≤ 8
   pub pending : Every IsResult f.card.results.pending
 
 -- the tests on the eIMs, the results and what is armed
-pub record AreTested (ms : Managers) (rs : Results) (test : Bool) : Type 0 where
+pub record AreTested (ms : EimList) (rs : Results) (test : Bool) : Type 0 where
   pub eims : IsEims ms
   pub store : IsStore rs
   pub counted : list_all is_counted ms.entries ≡ true
   pub armed : test ≡ true
 
-pub tested : (ms : Managers) (rs : Results) (armed : Bool) → ms.next ≤ 4294967295 → rs.next ≤ 4294967295 → (are_eims ms && is_store rs && list_all is_counted ms.entries && armed) ≡ true → AreTested ms rs armed
+pub tested : (ms : EimList) (rs : Results) (armed : Bool) → ms.next ≤ 4294967295 → rs.next ≤ 4294967295 → (are_eims ms && is_store rs && list_all is_counted ms.entries && armed) ≡ true → AreTested ms rs armed
 tested ms rs armed given numbered e =
     let k = and_parts (are_eims ms && is_store rs && list_all is_counted ms.entries) armed e in
     let l = and_parts (are_eims ms && is_store rs) (list_all is_counted ms.entries) k.0 in
@@ -130,7 +130,7 @@ tested ms rs armed given numbered e =
 pub fits_valid : (f : FullCard) → AreInRange f → fits_together f ≡ true → IsValid f
 unfolding fits_together
 fits_valid f r e =
-    let ms = f.card.managers in
+    let ms = f.card.eims in
     let rs = f.card.results in
     let armed = is_armed f.card.profiles rs f.armed in
     let k = and_parts (each_pair are_profiles_apart f.card.profiles) (are_eims ms && is_store rs && list_all is_counted ms.entries && armed) e in
@@ -139,7 +139,7 @@ fits_valid f r e =
       card = record {
         eid = r.head.eid;
         profiles = record { few = r.profiles_few; each = r.profiles; apart = pairs_take profile_pairs f.card.profiles k.0 };
-        managers = eims_valid ms t.eims (in_range ms.entries r.eims t.counted);
+        eims = eims_valid ms t.eims (in_range ms.entries r.eims t.counted);
         results = store_valid rs t.store r.pending;
       };
       armed = armed_told f.card f.armed t.armed;
@@ -158,7 +158,7 @@ same_tests true b f g = sym (g.1 (f.0 refl))
 same_tests false true f g = f.1 (g.0 refl)
 same_tests false false f g = refl
 
-pub same_eims : (test : Bool) (ms : Managers) → ms.next ≤ 4294967295 → (test ≡ true) ↔ IsEims ms → test ≡ are_eims ms
+pub same_eims : (test : Bool) (ms : EimList) → ms.next ≤ 4294967295 → (test ≡ true) ↔ IsEims ms → test ≡ are_eims ms
 same_eims test ms fits is = same_tests test (are_eims ms) is (eims_exactly ms fits)
 
 pub same_store : (test : Bool) (rs : Results) → rs.next ≤ 4294967295 → (test ≡ true) ↔ IsStore rs → test ≡ is_store rs

@@ -63,17 +63,17 @@ pub card_again : (home : List ℕ) (f : FullCard) → HasFields f home → IsVal
 unfolding card_at
 card_again home f h valid =
     let ps = f.card.profiles in
-    let es = f.card.managers.entries in
+    let es = f.card.eims.entries in
     let P = slots profile_slot 128 16 ps in
     let E = slots eim_slot 512 8 es in
     let table = valid.card.profiles in
-    let managers = valid.card.managers in
+    let eims = valid.card.eims in
     let results = valid.card.results in
     let grouped : home ≡ head (head_of f) ++ (P ++ (E ++ h.area)) = h.parts ∙ append_assoc (head (head_of f)) (P ++ E) h.area ∙ ap (λ (l : List ℕ). head (head_of f) ++ l) (append_assoc P E h.area) in
     ap card_at grouped
     ∙ rw (head_codec.again (head_of f) (P ++ (E ++ h.area)) (valid_head f valid))
     (rw (slots_again profile_codec 128 16 ps (E ++ h.area) table.few table.each)
-    (rw (slots_again eim_codec 512 8 es h.area managers.few (entries_fit f.card.managers.next es managers.next.fits managers.each))
+    (rw (slots_again eim_codec 512 8 es h.area eims.few (entries_fit f.card.eims.next es eims.next.fits eims.each))
     (rw (results_again h.area f.card.results.pending h.results (pending_fit f.card.results.next f.card.results.pending results.each))
     (only_if_again (fits_together f) f (valid_fits f valid)))))
 

@@ -184,7 +184,7 @@ written_fields f valid = record { area = slots result_slot 20736 8 f.card.result
 pub length-fields : (f : FullCard) → IsValid f → length (fields f) ≡ 6400
 length-fields f valid =
     let ps = f.card.profiles in
-    let ms = f.card.managers in
+    let ms = f.card.eims in
     let P = slots profile_slot 128 16 ps in
     let E = slots eim_slot 512 8 ms.entries in
     omega (
@@ -193,7 +193,7 @@ length-fields f valid =
       length-append P E,
       length-head (head_of f) (valid_head f valid),
       length-slots profile_slot IsProfile 128 16 length-profile_slot ps valid.card.profiles.few valid.card.profiles.each,
-      length-slots eim_slot IsEimSlot 512 8 length-eim_slot ms.entries valid.card.managers.few (entries_fit ms.next ms.entries valid.card.managers.next.fits valid.card.managers.each),
+      length-slots eim_slot IsEimSlot 512 8 length-eim_slot ms.entries valid.card.eims.few (entries_fit ms.next ms.entries valid.card.eims.next.fits valid.card.eims.each),
     )
 
 -- the length of a home

@@ -7,7 +7,7 @@ use Rattle.home_codec.specs.declared.card.Card.{Card}
 
 -- The EID, the profiles, the eIMs and the pending results.
 abbrev pub small_card : Card → SmallCard
-small_card c = record { eid = c.eid; profiles = c.profiles; managers = c.eims; results = c.store }
+small_card c = record { eid = c.eid; profiles = c.profiles; eims = c.eims; results = c.store }
 
 -- The same, with what is armed.
 abbrev pub full_card : Card → FullCard

@@ -28,7 +28,7 @@ pub record HasResults (pending : List PackageResult) (area : List ℕ) : Type 0 
 abbrev pub fields : FullCard → List ℕ
 fields f =
     head (head_of f)
-    ++ (slots profile_slot 128 16 f.card.profiles ++ slots eim_slot 512 8 f.card.managers.entries)
+    ++ (slots profile_slot 128 16 f.card.profiles ++ slots eim_slot 512 8 f.card.eims.entries)
 
 -- the home has exactly the fields of the card
 pub record HasFields (f : FullCard) (home : List ℕ) : Type 0 where

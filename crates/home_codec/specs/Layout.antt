@@ -15,8 +15,8 @@ abbrev pub head_of : FullCard → Head
 head_of f = record {
   eid = f.card.eid;
   profiles = length f.card.profiles;
-  eims = length f.card.managers.entries;
-  association = f.card.managers.next;
+  eims = length f.card.eims.entries;
+  association = f.card.eims.next;
   seq = f.card.results.next;
   armed = f.armed;
 }

@@ -133,8 +133,8 @@ is_armed profiles rs (Some a) =
 unfoldable pub fits_together : FullCard → Bool
 fits_together f =
     each_pair are_profiles_apart f.card.profiles
-    && (are_eims f.card.managers && is_store f.card.results
-    && list_all is_counted f.card.managers.entries
+    && (are_eims f.card.eims && is_store f.card.results
+    && list_all is_counted f.card.eims.entries
     && is_armed f.card.profiles f.card.results f.armed)
 
 -- the card of these parts, where they fit together
@@ -143,7 +143,7 @@ card_of_parts h profiles eims pending = record {
   card = record {
     eid = h.eid;
     profiles = profiles;
-    managers = record { entries = eims; next = h.association };
+    eims = record { entries = eims; next = h.association };
     results = record { pending = pending; next = h.seq };
   };
   armed = h.armed;

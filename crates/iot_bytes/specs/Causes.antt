@@ -7,7 +7,7 @@ Rose before now = min (before + 1) (2 ^ 64 - 1) ≤ now
 
 -- a failed call raised the count
 pub record HasCause {T E : Type 0} (before now : ℕ) (result : Result T E) : Type 0 where
-  pub later : before ≤ now
+  pub monotone : before ≤ now
   pub failed : OnErr result (Rose before now)
 
 -- each failed call counts one up to the last value of the count, and no other call counts

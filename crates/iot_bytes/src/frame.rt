@@ -45,7 +45,7 @@ enum FillEnd {
 fn fill<S: Source>(source: &mut S, out: &mut [u8]) -> FillEnd
     ensures octets { (bytes : List ℕ) → S.rest source.old ≡ Some bytes → Fills bytes out.new (S.rest source.new) result }
     ensures untold { S.rest source.old ≡ None → S.rest source.new ≡ None }
-    ensures later { S.faults source.old ≤ S.faults source.new }
+    ensures monotone { S.faults source.old ≤ S.faults source.new }
     ensures fault { result ≡ FillEnd.Fault → Rose (S.faults source.old) (S.faults source.new) }
     ensures range { (i : ℕ) → slice_index out.new i < 256 }
 {
@@ -66,7 +66,7 @@ fn fill<S: Source>(source: &mut S, out: &mut [u8]) -> FillEnd
 pub fn read_frame<S: Source>(alloc: Global, source: &mut S) -> FrameEnd
     ensures octets { (bytes : List ℕ) → S.rest source.old ≡ Some bytes → FrameGives bytes result (S.rest source.new) }
     ensures untold { S.rest source.old ≡ None → S.rest source.new ≡ None }
-    ensures later { S.faults source.old ≤ S.faults source.new }
+    ensures monotone { S.faults source.old ≤ S.faults source.new }
     ensures fault { result ≡ FrameEnd.ReadFault → Rose (S.faults source.old) (S.faults source.new) }
 {
     let mut head = [0; FRAME_HEAD_LEN];

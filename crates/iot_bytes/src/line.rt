@@ -36,7 +36,7 @@ enum Next {
 fn next_octet<S: Source>(source: &mut S) -> Next
     ensures octets { (bytes : List ℕ) → S.rest source.old ≡ Some bytes → NextGives bytes result (S.rest source.new) }
     ensures untold { S.rest source.old ≡ None → S.rest source.new ≡ None }
-    ensures later { S.faults source.old ≤ S.faults source.new }
+    ensures monotone { S.faults source.old ≤ S.faults source.new }
     ensures fault { result ≡ Next.Fault → Rose (S.faults source.old) (S.faults source.new) }
 {
     let mut octet = [0; 1];
@@ -55,7 +55,7 @@ pub fn read_line<S: Source>(alloc: Global, source: &mut S, limit: usize) -> Line
     requires { limit ≤ LINE_LIMIT }
     ensures octets { (bytes : List ℕ) → S.rest source.old ≡ Some bytes → LineGives bytes limit result (S.rest source.new) }
     ensures untold { S.rest source.old ≡ None → S.rest source.new ≡ None }
-    ensures later { S.faults source.old ≤ S.faults source.new }
+    ensures monotone { S.faults source.old ≤ S.faults source.new }
     ensures fault { result ≡ LineEnd.ReadFault → Rose (S.faults source.old) (S.faults source.new) }
 {
     let mut line = Row::new(alloc);

@@ -27,9 +27,9 @@ ipa_form eid = do
 -- a manager's identifier, and the EID of its card
 abbrev pub eim_form : List ℕ → List ℕ → Option Form
 eim_form id eid = do
-  manager ← eim_id_of id
+  eim ← eim_id_of id
   card ← eid_word eid
-  Some (Eim manager card)
+  Some (Eim eim card)
 
 -- the form that the words have: `card PATH`, where PATH is any text but the empty one, `ipa EID` or `eim ID EID`
 unfoldable pub form_of : List (List ℕ) → Option Form

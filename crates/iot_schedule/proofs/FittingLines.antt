@@ -18,7 +18,7 @@ use Rattle.iot_schedule.specs.Words.{words, word_at, last_word, no_word, list_of
 use Rattle.iot_schedule.specs.Tokens.{number_of, eid_word, address_word, key_word, profile_word, pick_word, bytes_word, choice_of, tear_word}
 use Rattle.iot_schedule.specs.Operations.{body_of}
 use Rattle.iot_schedule.specs.Devices.{device_of, device_line, device_at}
-use Rattle.iot_schedule.specs.Steps.{eim_line, initial_line, bind_line, order_line, skip_line, kept_line, poll_line, up_line, verdict_of, down_line, load_line, probe_line, cut_line, detach_line, bare_line, device_step, assistant_step, network_step, manager_step, step_line, step_at}
+use Rattle.iot_schedule.specs.Steps.{eim_line, initial_line, bind_line, order_line, skip_line, kept_line, poll_line, up_line, verdict_of, down_line, load_line, probe_line, cut_line, detach_line, bare_line, device_step, assistant_step, network_step, eim_step, step_line, step_at}
 use Rattle.iot_schedule.specs.Ranges.{IsDevice, IsStep}
 use Rattle.iot_schedule.proofs.Fitting.{branch, last_fits, word_fits, list_fits, number_fits, eid_fits, name_fits, address_word_fits, key_word_fits, profile_fits, pick_fits, bytes_fits, body_fits}
 
@@ -155,9 +155,9 @@ network_fits name ws l e =
     branch (same name (codes "down")) _ _ l e2 (λ f. down_fits ws l f) (λ e3.
     assistant_fits name ws l e3)))
 
-manager_fits : (name : List ℕ) → LineFits (manager_step name)
-unfolding manager_step
-manager_fits name ws l e =
+eim_step_fits : (name : List ℕ) → LineFits (eim_step name)
+unfolding eim_step
+eim_step_fits name ws l e =
     branch (same name (codes "eim")) _ _ l e (λ f. eim_fits ws l f) (λ e1.
     branch (same name (codes "initial")) _ _ l e1 (λ f. initial_fits ws l f) (λ e2.
     branch (same name (codes "bind")) _ _ l e2 (λ f. bind_fits ws l f) (λ e3.
@@ -169,7 +169,7 @@ manager_fits name ws l e =
 line_fits : LineFits step_line
 unfolding step_line
 line_fits [] l e = absurd cc
-line_fits (name ∷ ws) l e = manager_fits name ws l e
+line_fits (name ∷ ws) l e = eim_step_fits name ws l e
 
 pub step_fits : (text : List ℕ) (l : Line) → step_at text ≡ Some l → IsStep l
 unfolding step_at

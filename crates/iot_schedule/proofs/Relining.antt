@@ -34,7 +34,7 @@ use Rattle.iot_schedule.specs.declared.types.Line.{Line}
 use Rattle.iot_schedule.specs.declared.types.Line.TheVariants as line
 use Rattle.iot_schedule.specs.Tokens.{choice_of, profile_word}
 use Rattle.iot_schedule.specs.Devices.{device_of, device_line, device_at}
-use Rattle.iot_schedule.specs.Steps.{eim_line, initial_line, bind_line, order_line, skip_line, kept_line, poll_line, up_line, down_line, verdict_of, load_line, probe_line, cut_line, detach_line, bare_line, device_step, assistant_step, network_step, manager_step, step_line, step_at}
+use Rattle.iot_schedule.specs.Steps.{eim_line, initial_line, bind_line, order_line, skip_line, kept_line, poll_line, up_line, down_line, verdict_of, load_line, probe_line, cut_line, detach_line, bare_line, device_step, assistant_step, network_step, eim_step, step_line, step_at}
 use Rattle.iot_schedule.specs.Spelling.{address_text, key_text, sign_text, profile_text, pick_text, bytes_text, tear_text, psmo_text, optional_text, eco_text, body_words, device_words, verdict_words, good_text, probe_text, step_words, device_text, step_text}
 use Rattle.iot_schedule.specs.Ranges.{IsDevice, IsPick, IsStep}
 use Rattle.iot_schedule.proofs.Lacking.{lacks, is_false, lacks_both, lacks_passing, hex_lacks, decimal_lacks}
@@ -148,7 +148,7 @@ words_of_step (line.Detach at) fits = words_joined _ _ refl (number_word at (ome
 words_of_step line.Modems fits = words_joined _ _ refl tt
 
 line_again : (l : Line) → IsStep l → step_line (step_words l) ≡ Some l
-unfolding step_line manager_step network_step assistant_step device_step step_words IsStep eim_line initial_line bind_line order_line skip_line kept_line poll_line up_line down_line verdict_of load_line probe_line cut_line detach_line bare_line word_at last_word no_word choice_of
+unfolding step_line eim_step network_step assistant_step device_step step_words IsStep eim_line initial_line bind_line order_line skip_line kept_line poll_line up_line down_line verdict_of load_line probe_line cut_line detach_line bare_line word_at last_word no_word choice_of
 line_again (line.Eim id) fits = rw (eim_id_again id fits) refl
 line_again (line.Initial id address key) fits = rw (eim_id_again id fits.0) (rw (address_word_again address fits.1) (rw (key_word_again key fits.2) refl))
 line_again (line.Bind id association last) fits =

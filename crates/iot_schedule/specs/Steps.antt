@@ -124,8 +124,8 @@ network_step name ws =
     else assistant_step name ws
 
 -- the managers, or one of the lines above
-unfoldable pub manager_step : List ℕ → List (List ℕ) → Option Line
-manager_step name ws =
+unfoldable pub eim_step : List ℕ → List (List ℕ) → Option Line
+eim_step name ws =
     if same name (codes "eim") then eim_line ws
     else if same name (codes "initial") then initial_line ws
     else if same name (codes "bind") then bind_line ws
@@ -137,7 +137,7 @@ manager_step name ws =
 -- a keyword and the words behind it
 unfoldable pub step_line : List (List ℕ) → Option Line
 step_line [] = None
-step_line (name ∷ ws) = manager_step name ws
+step_line (name ∷ ws) = eim_step name ws
 
 -- the line that a text spells
 unfoldable pub step_at : List ℕ → Option Line

@@ -4,7 +4,7 @@ ghost use Rattle.std.specs.Prelude.{◌≡◌, IfOk};
 ghost use Rattle.iot_schedule.specs.Ranges.{IsStep};
 ghost use Rattle.sgp_der.specs.Fields.{Gives};
 ghost use Rattle.iot_schedule.specs.declared.types.Line.{Line};
-ghost use Rattle.iot_schedule.specs.Steps.{eim_line, initial_line, bind_line, order_line, skip_line, kept_line, poll_line, up_line, verdict_of, down_line, load_line, probe_line, cut_line, detach_line, bare_line, device_step, assistant_step, network_step, manager_step, step_line, step_at};
+ghost use Rattle.iot_schedule.specs.Steps.{eim_line, initial_line, bind_line, order_line, skip_line, kept_line, poll_line, up_line, verdict_of, down_line, load_line, probe_line, cut_line, detach_line, bare_line, device_step, assistant_step, network_step, eim_step, step_line, step_at};
 
 use crate::operations::body;
 use crate::types::Line;
@@ -213,9 +213,9 @@ fn network_step(alloc: Global, name: &[u8], words: &mut Words) -> Result<Line, R
 }
 
 // The managers, or one of the lines above.
-#[tactic(auto, unfolding(crate::specs::Steps::manager_step))]
-fn manager_step(alloc: Global, name: &[u8], words: &mut Words) -> Result<Line, ReadError>
-    ensures { Gives result (manager_step name.now words.old) }
+#[tactic(auto, unfolding(crate::specs::Steps::eim_step))]
+fn eim_step(alloc: Global, name: &[u8], words: &mut Words) -> Result<Line, ReadError>
+    ensures { Gives result (eim_step name.now words.old) }
 {
     if is(name, b"eim") {
         eim(alloc, words)
@@ -239,7 +239,7 @@ fn step(alloc: Global, text: &[u8]) -> Result<Line, ReadError>
     ensures { Gives result (step_at text.now) }
 {
     let (name, mut words) = keyword(text);
-    manager_step(alloc, name, &mut words)
+    eim_step(alloc, name, &mut words)
 }
 
 /// The line behind the first one that a text, without its end, spells.

@@ -10,7 +10,7 @@ use Rattle.small_card.specs.Cards.{SmallCard}
 use Rattle.small_card.specs.Checks.{refused, has_association, has_room, eim_refusal, later_refusal}
 use Rattle.small_card.specs.Histories.{History, card_of, kept}
 use Rattle.small_card.specs.Lists.{same}
-use Rattle.small_card.specs.Managers.{has_eim}
+use Rattle.small_card.specs.EimOperations.{has_eim}
 use Rattle.small_card.specs.Ranges.{IsSigned}
 use Rattle.small_card.specs.declared.types.Package.{Package}
 use Rattle.small_card.specs.declared.types.Refused.{Refused}
@@ -31,7 +31,7 @@ either_other (Some r) p h k = h
 
 eim_other : (c : SmallCard) (p : Package) → IsOther (eim_refusal c p)
 unfolding eim_refusal refused
-eim_other c p = cond_both {A = Option Refused} (has_eim p.eim c.managers.entries) None (Some (refused 2)) IsOther (λ _. tt) (λ _. omega arith)
+eim_other c p = cond_both {A = Option Refused} (has_eim p.eim c.eims.entries) None (Some (refused 2)) IsOther (λ _. tt) (λ _. omega arith)
 
 verdict_other : (good : Bool) → IsOther (verdict_refusal good)
 unfolding refused
@@ -44,9 +44,9 @@ later_other c n p =
     let replay : Refused = record { code = 6; kept = n; received = p.counter } in
     let room : Option Refused = cond (not (has_room c.results)) (Some (refused 7)) None in
     let counted : Option Refused = cond (nat_le p.counter n) (Some replay) room in
-    let named : Option Refused = cond (not (has_association p.eim p.association c.managers.entries)) (Some (refused 5)) counted in
+    let named : Option Refused = cond (not (has_association p.eim p.association c.eims.entries)) (Some (refused 5)) counted in
     cond_both {A = Option Refused} (not (same p.eid c.eid)) (Some (refused 4)) named IsOther (λ _. omega arith) (λ _.
-    cond_both {A = Option Refused} (not (has_association p.eim p.association c.managers.entries)) (Some (refused 5)) counted IsOther (λ _. omega arith) (λ _.
+    cond_both {A = Option Refused} (not (has_association p.eim p.association c.eims.entries)) (Some (refused 5)) counted IsOther (λ _. omega arith) (λ _.
     cond_both {A = Option Refused} (nat_le p.counter n) (Some replay) room IsOther (λ _. omega arith) (λ _.
     cond_both {A = Option Refused} (not (has_room c.results)) (Some (refused 7)) None IsOther (λ _. omega arith) (λ _. tt))))
 

@@ -5,13 +5,13 @@ use Rattle.std.specs.Option.{option_or}
 use Rattle.std.specs.List.{AllPass}
 use Rattle.std.proofs.lemmas.Bool.{cond_both, eqb-true, eqb-false, not-false, and_parts}
 use Rattle.sgp_values.specs.Ranges.{is_octet}
-use Rattle.small_card.specs.Cards.{Managers}
+use Rattle.small_card.specs.Cards.{EimList}
 use Rattle.small_card.specs.Checks.{refused, has_association, has_room, eim_refusal, later_refusal, value_refusal}
 use Rattle.small_card.specs.Histories.{History, card_of, former_of, full_of, kept, with_unit}
 use Rattle.small_card.specs.Laws.{IsCounted}
 use Rattle.small_card.specs.Legal.{IsLegal, IsLegalFrom, May}
 use Rattle.small_card.specs.Lists.{same, Every}
-use Rattle.small_card.specs.Managers.{is_eim, has_eim, line_of, is_empty_list, last_association, do_eco}
+use Rattle.small_card.specs.EimOperations.{is_eim, has_eim, line_of, is_empty_list, last_association, do_eco}
 use Rattle.small_card.specs.Packages.{result_of, with_result}
 use Rattle.small_card.specs.Ranges.{IsNumber, IsSigned, IsPackage, IsResult, IsRefused, IsCommand, IsAnswer, IsResultList, IsEimList, IsItem, IsEco, greatest_counter}
 use Rattle.small_card.specs.Steps.{step_full}
@@ -29,7 +29,7 @@ use Rattle.small_card.specs.declared.types.Signed.{Signed}
 use Rattle.small_card.proofs.Counting.{legal_counted}
 use Rattle.small_card.proofs.ListLemmas.{same_yes, any_every, every_both, every_mono}
 use Rattle.small_card.proofs.Looking.{full_more}
-use Rattle.small_card.proofs.ManagerLemmas.{eco_keeps}
+use Rattle.small_card.proofs.EimLemmas.{eco_keeps}
 use Rattle.small_card.proofs.Validity.{legal_valid}
 use Rattle.package_codec.specs.Checks.{verdict_refusal, package_refusal, unless_refused, check_read, check, most_octets}
 use Rattle.package_codec.specs.Reading.{signed_at}
@@ -104,8 +104,8 @@ valid_card : (h : History) → IsValid (full_of h) → IsValidCard (card_of h)
 unfolding full_of
 valid_card h v = v.card
 
-next_managers : (h : History) → IsValid (full_of h) → IsNumber (card_of h).managers.next
-next_managers h v = (valid_card h v).managers.next
+next_eims : (h : History) → IsValid (full_of h) → IsNumber (card_of h).eims.next
+next_eims h v = (valid_card h v).eims.next
 
 load_may : ReadsInRange → (h : History) (bytes : List ℕ) (r : Result Package Refused) (u : CardUnit) → AllPass is_octet bytes → ((p : Package) → r ≡ Ok p → IsAccepted h bytes p) → unit_of_load r ≡ Some u → May h u
 load_may range h bytes (Ok p) u octets ok e =
@@ -127,22 +127,22 @@ remove_may h seq u e =
       | false ↦ λ none f. absurd cc
     ] refl e
 
-may_initial : (h : History) (id address key : List ℕ) → IsCommand (command.Initial id address key) → IsLegal h → is_empty_list (card_of h).managers.entries ≡ true → ((card_of h).managers.next == last_association) ≡ false → May h (initial id address key)
+may_initial : (h : History) (id address key : List ℕ) → IsCommand (command.Initial id address key) → IsLegal h → is_empty_list (card_of h).eims.entries ≡ true → ((card_of h).eims.next == last_association) ≡ false → May h (initial id address key)
 unfolding IsCommand May last_association
 may_initial h id address key range l empty left = record {
   id = range.0;
   address = range.1;
   key = range.2;
-  empty = empty_list (card_of h).managers.entries empty;
+  empty = empty_list (card_of h).eims.entries empty;
   next =
       let valid : IsValid (full_of h) = legal_valid h l in
-      let ne : (card_of h).managers.next ≢ 4294967295 = eqb-false _ _ left in
-      omega (arith, ne, (next_managers h valid).fits);
+      let ne : (card_of h).eims.next ≢ 4294967295 = eqb-false _ _ left in
+      omega (arith, ne, (next_eims h valid).fits);
 }
 
-initial_may : (h : History) (id address key : List ℕ) (u : CardUnit) → IsCommand (command.Initial id address key) → IsLegal h → unit_of_initial (card_of h).managers id address key ≡ Some u → May h u
+initial_may : (h : History) (id address key : List ℕ) (u : CardUnit) → IsCommand (command.Initial id address key) → IsLegal h → unit_of_initial (card_of h).eims id address key ≡ Some u → May h u
 initial_may h id address key u range l e =
-    let ms = (card_of h).managers in
+    let ms = (card_of h).eims in
     let one : Option CardUnit = Some (initial id address key) in
     elim (is_empty_list ms.entries) as (λ b. is_empty_list ms.entries ≡ b → cond {A = Option CardUnit} (not b) None (cond {A = Option CardUnit} (ms.next == last_association) None one) ≡ Some u → May h u) [
       | true ↦ λ empty f. elim (ms.next == last_association) as (λ b. (ms.next == last_association) ≡ b → cond {A = Option CardUnit} b None one ≡ Some u → May h u) [
@@ -177,18 +177,18 @@ after_all_legal range h [] l fits = l
 after_all_legal range h (c ∷ cs) l fits = after_all_legal range (after h c) cs (after_legal range h c l fits.0) fits.1
 
 -- each entry has the kept counter and is in range
-entries_counted : (h : History) → IsLegal h → Every (λ x. (x.counter ≡ kept h x.id x.association) × IsEntry (card_of h).managers.next x) (card_of h).managers.entries
+entries_counted : (h : History) → IsLegal h → Every (λ x. (x.counter ≡ kept h x.id x.association) × IsEntry (card_of h).eims.next x) (card_of h).eims.entries
 unfolding IsCounted
 entries_counted h l =
-    every_both (λ x. x.counter ≡ kept h x.id x.association) (IsEntry (card_of h).managers.next) (λ x. (x.counter ≡ kept h x.id x.association) × IsEntry (card_of h).managers.next x) (λ x c e. (c, e))
-    (card_of h).managers.entries (legal_counted h l) (valid_card h (legal_valid h l)).managers.each
+    every_both (λ x. x.counter ≡ kept h x.id x.association) (IsEntry (card_of h).eims.next) (λ x. (x.counter ≡ kept h x.id x.association) × IsEntry (card_of h).eims.next x) (λ x c e. (c, e))
+    (card_of h).eims.entries (legal_counted h l) (valid_card h (legal_valid h l)).eims.each
 
 -- the entry that is found has the kept counter
-kept_fits : (h : History) (id : List ℕ) (association : ℕ) → IsLegal h → has_association id association (card_of h).managers.entries ≡ true → kept h id association ≤ greatest_counter
+kept_fits : (h : History) (id : List ℕ) (association : ℕ) → IsLegal h → has_association id association (card_of h).eims.entries ≡ true → kept h id association ≤ greatest_counter
 unfolding has_association
 kept_fits h id association l e =
-    let ms = (card_of h).managers in
-    let v = (valid_card h (legal_valid h l)).managers in
+    let ms = (card_of h).eims in
+    let v = (valid_card h (legal_valid h l)).eims in
     let found = any_every (λ x. is_eim id x && x.association == association) (λ x. (x.counter ≡ kept h x.id x.association) × IsEntry ms.next x) ms.entries e (entries_counted h l) in
     let both = and_parts (is_eim id found.0) (found.0.association == association) found.1 in
     let k : kept h id association ≡ kept h found.0.id found.0.association = ap (λ i. kept h i association) (same_yes id found.0.id both.0) ∙ ap (λ n. kept h found.0.id n) (sym (eqb-true found.0.association association both.1)) in
@@ -210,7 +210,7 @@ replay_is k n r kept_fits received_fits e =
 eim_is : (h : History) (p : Package) (r : Refused) → eim_refusal (card_of h) p ≡ Some r → IsRefused r
 unfolding eim_refusal
 eim_is h p r e =
-    elim (has_eim p.eim (card_of h).managers.entries) as (λ b. cond {A = Option Refused} b None (Some (refused 2)) ≡ Some r → IsRefused r) [
+    elim (has_eim p.eim (card_of h).eims.entries) as (λ b. cond {A = Option Refused} b None (Some (refused 2)) ≡ Some r → IsRefused r) [
       | true ↦ λ f. absurd cc
       | false ↦ λ f. plain_is 2 r (omega arith) (omega arith) f
     ] e
@@ -228,7 +228,7 @@ later_is : (h : History) (p : Package) (r : Refused) → IsLegal h → IsPackage
 unfolding later_refusal
 later_is h p r l range e =
     let n : ℕ = kept h p.eim p.association in
-    let known : Bool = has_association p.eim p.association (card_of h).managers.entries in
+    let known : Bool = has_association p.eim p.association (card_of h).eims.entries in
     let replay : Refused = record { code = 6; kept = n; received = p.counter } in
     let room : Option Refused = cond (not (has_room (card_of h).results)) (Some (refused 7)) None in
     let counted : Option Refused = cond (nat_le p.counter n) (Some replay) room in
@@ -293,11 +293,11 @@ results_fit h l =
       rising = v.rising;
     }
 
-eims_fit : (h : History) → IsLegal h → IsEimList (map line_of (card_of h).managers.entries)
+eims_fit : (h : History) → IsLegal h → IsEimList (map line_of (card_of h).eims.entries)
 unfolding IsItem IsEco do_eco
-eims_fit h l = (eco_keeps (card_of h).managers eco.List tt (valid_card h (legal_valid h l)).managers).item
+eims_fit h l = (eco_keeps (card_of h).eims eco.List tt (valid_card h (legal_valid h l)).eims).item
 
-initial_fits : (ms : Managers) → IsNumber ms.next → IsAnswer (initial_reply ms)
+initial_fits : (ms : EimList) → IsNumber ms.next → IsAnswer (initial_reply ms)
 unfolding IsAnswer
 initial_fits ms fits =
     cond_both (not (is_empty_list ms.entries)) (answer.InitialRefused 1) (cond (ms.next == last_association) (answer.InitialRefused 2) (answer.Associated ms.next)) IsAnswer
@@ -318,4 +318,4 @@ reply_fits range h command.Rollback l fits = roll_fits h (former_of h) l
 reply_fits range h (command.Remove seq) l fits = remove_fits (is_pending seq (card_of h).results.pending)
 reply_fits range h command.Results l fits = results_fit h l
 reply_fits range h command.Eims l fits = eims_fit h l
-reply_fits range h (command.Initial id address key) l fits = initial_fits (card_of h).managers (next_managers h (legal_valid h l))
+reply_fits range h (command.Initial id address key) l fits = initial_fits (card_of h).eims (next_eims h (legal_valid h l))

@@ -1,8 +1,8 @@
 -- What the card replies to a command, and the history after it.
 use Rattle.std.specs.Prelude.{ℕ, ◌==◌, List, [], ◌∷◌, map, not, Option, Some, None, Result, Ok, Err, if◌then◌else◌}
-use Rattle.small_card.specs.Cards.{Managers}
+use Rattle.small_card.specs.Cards.{EimList}
 use Rattle.small_card.specs.Histories.{History, card_of, former_of, with_unit}
-use Rattle.small_card.specs.Managers.{line_of, is_empty_list, last_association}
+use Rattle.small_card.specs.EimOperations.{line_of, is_empty_list, last_association}
 use Rattle.small_card.specs.Packages.{result_of}
 use Rattle.small_card.specs.Units.{CardUnit, initial, load, rollback, remove, is_pending}
 use Rattle.small_card.specs.declared.types.Answer.{Answer}
@@ -25,7 +25,7 @@ rollback_reply h (Some armed) = answer.RolledBack (card_of h).results.next
 rollback_reply h None = answer.NotPermitted
 
 -- The first eIM is refused where the card has one, or has given out its last association.
-abbrev pub initial_reply : Managers → Answer
+abbrev pub initial_reply : EimList → Answer
 initial_reply ms =
     if not (is_empty_list ms.entries) then answer.InitialRefused 1
     else if ms.next == last_association then answer.InitialRefused 2
@@ -38,8 +38,8 @@ reply h (command.Load good bytes) = load_reply h (check h good bytes)
 reply h command.Rollback = rollback_reply h (former_of h)
 reply h (command.Remove seq) = if is_pending seq (card_of h).results.pending then answer.Removed else answer.Absent
 reply h command.Results = answer.Results (card_of h).results.pending
-reply h command.Eims = answer.Eims (map line_of (card_of h).managers.entries)
-reply h (command.Initial id address key) = initial_reply (card_of h).managers
+reply h command.Eims = answer.Eims (map line_of (card_of h).eims.entries)
+reply h (command.Initial id address key) = initial_reply (card_of h).eims
 
 -- The unit of a load: that of the package, unless it is refused.
 abbrev pub unit_of_load : Result Package Refused → Option CardUnit
@@ -52,7 +52,7 @@ unit_of_rollback (Some armed) = Some rollback
 unit_of_rollback None = None
 
 -- The unit of a first eIM, unless it is refused.
-abbrev pub unit_of_initial : Managers → List ℕ → List ℕ → List ℕ → Option CardUnit
+abbrev pub unit_of_initial : EimList → List ℕ → List ℕ → List ℕ → Option CardUnit
 unit_of_initial ms id address key =
     if not (is_empty_list ms.entries) then None
     else if ms.next == last_association then None
@@ -66,7 +66,7 @@ unit_of h command.Rollback = unit_of_rollback (former_of h)
 unit_of h (command.Remove seq) = if is_pending seq (card_of h).results.pending then Some (remove seq) else None
 unit_of h command.Results = None
 unit_of h command.Eims = None
-unit_of h (command.Initial id address key) = unit_of_initial (card_of h).managers id address key
+unit_of h (command.Initial id address key) = unit_of_initial (card_of h).eims id address key
 
 -- The history with this unit, if any.
 abbrev pub grown : Option CardUnit → History → History

@@ -2,7 +2,7 @@
 use Rattle.std.proofs.Common.{◌<◌, ◌+◌, suc, length, get_or, drop, drop-cons, arith, ◌≡◌, ℕ, Bool, true, false, ◌&&◌, ◌||◌, cond, List, [], ◌∷◌, ◌++◌, map, refl, ◌∙◌, ap, sym, subst, Option, None, Some}
 use Rattle.std.proofs.lemmas.List.{map_push}
 use Rattle.std.proofs.lemmas.Bool.{cond-true, cond-false}
-use Rattle.small_card.specs.Cards.{Managers}
+use Rattle.small_card.specs.Cards.{EimList}
 use Rattle.small_card.specs.Profiles.{Done, enabled_of, arms_profile, arms, do_psmo}
 use Rattle.small_card.specs.Packages.{is_done, run_psmos, execute}
 use Rattle.small_card.specs.declared.types.Profile.{Profile}
@@ -98,8 +98,8 @@ all_done former start ops left ps items armed e ran =
     }
 
 -- a whole run is that of the definition
-pub run_execute : (former out : Option (List ℕ)) (start : List Profile) (ops : List Psmo) (ps : List Profile) (items : List Item) (armed : Bool) (managers : Managers) → former ≡ enabled_of start → IsRun former start ops ps items armed → out ≡ cond armed former None → execute start managers (Psmos ops) ≡ record { profiles = ps; managers = managers; items = items; armed = out }
+pub run_execute : (former out : Option (List ℕ)) (start : List Profile) (ops : List Psmo) (ps : List Profile) (items : List Item) (armed : Bool) (eims : EimList) → former ≡ enabled_of start → IsRun former start ops ps items armed → out ≡ cond armed former None → execute start eims (Psmos ops) ≡ record { profiles = ps; eims = eims; items = items; armed = out }
 unfolding execute
-run_execute former out start ops ps items armed managers e h o =
+run_execute former out start ops ps items armed eims e h o =
     let flag : cond armed former None ≡ cond (arms former (run_psmos former [] start ops).1) former None = ap (λ b. cond {A = Option (List ℕ)} b former None) h.flag in
     rw (← e) (rw (o, flag, h.table, h.listed) refl)

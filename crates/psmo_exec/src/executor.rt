@@ -1,5 +1,5 @@
 ghost use Rattle.std.specs.Prelude.{◌≡◌, ◌++◌, ◌∷◌, [], None, if◌then◌else◌, OnOk, IfOk};
-ghost use Rattle.small_card.specs.Cards.{Managers};
+ghost use Rattle.small_card.specs.Cards.{EimList};
 ghost use Rattle.small_card.specs.Packages.{execute};
 ghost use Rattle.small_card.specs.Profiles.{enabled_of};
 ghost use Rattle.small_card.specs.declared.types.Body.TheVariants.{Psmos};
@@ -69,8 +69,8 @@ fn armed_profile(former: Option<Iccid>, armed: bool) -> Option<Iccid>
 /// # Errors
 /// `NoMemory`, and the table is dropped, so hand in a copy of what must stay.
 pub fn run(alloc: Global, mut table: Table, ops: &Row<Psmo>) -> Result<PsmoDone, NoMemory>
-    ensures { IfOk result (λ done. (managers : Managers) → execute table managers (Psmos ops.now)
-        ≡ record { profiles = done.table; managers = managers; items = done.items; armed = done.armed }) }
+    ensures { IfOk result (λ done. (eims : EimList) → execute table eims (Psmos ops.now)
+        ≡ record { profiles = done.table; eims = eims; items = done.items; armed = done.armed }) }
 {
     let former = table.enabled();
     let Executed { items, armed } = run_all(alloc, &former, &mut table, ops.as_slice())?;

@@ -15,7 +15,7 @@ pub const MOST_FRAMES: u32 = 100_000;
 pub fn next_frame<S: Source>(alloc: Global, source: &mut S) -> Result<Row<u8>, ReadStop>
     ensures next { (count : ℕ) → NextFrame count (S.rest source.old) (S.rest source.new) result }
     ensures fault { result ≡ Err ReadStop.Fault → Rose (S.faults source.old) (S.faults source.new) }
-    ensures later { S.faults source.old ≤ S.faults source.new }
+    ensures monotone { S.faults source.old ≤ S.faults source.new }
 {
     match read_frame(alloc, source) {
         FrameEnd::Frame(frame) => Ok(frame),
@@ -31,7 +31,7 @@ pub fn next_frame<S: Source>(alloc: Global, source: &mut S) -> Result<Row<u8>, R
 pub fn no_further<S: Source>(alloc: Global, source: &mut S) -> ReadStop
     ensures none { NoFurther (S.rest source.old) (S.rest source.new) result }
     ensures fault { result ≡ ReadStop.Fault → Rose (S.faults source.old) (S.faults source.new) }
-    ensures later { S.faults source.old ≤ S.faults source.new }
+    ensures monotone { S.faults source.old ≤ S.faults source.new }
 {
     match next_frame(alloc, source) {
         Ok(_) => ReadStop::Limit,

@@ -16,7 +16,7 @@ pub fn send_frame<K: Sink>(octets: &[u8], sink: &mut K) -> Result<(), WriteFault
     ensures sent { (content : List ℕ) → octets.now ≡ frame content
         → Sent (K.sent sink.old) (K.sent sink.new) content result }
     ensures fault { OnErr result (Rose (K.faults sink.old) (K.faults sink.new)) }
-    ensures later { K.faults sink.old ≤ K.faults sink.new }
+    ensures monotone { K.faults sink.old ≤ K.faults sink.new }
 {
     send(sink, octets)
 }
@@ -42,7 +42,7 @@ pub fn send_stopped<K: Sink>(
     ensures closes { Closes true (K.sent sink.old) (K.sent sink.new)
         (stopped status number) result }
     ensures fault { result ≡ Err SendStop.Fault → Rose (K.faults sink.old) (K.faults sink.new) }
-    ensures later { K.faults sink.old ≤ K.faults sink.new }
+    ensures monotone { K.faults sink.old ≤ K.faults sink.new }
 {
     let Ok(octets) = stop_frame(alloc, status, number) else {
         return Err(SendStop::NoMemory);

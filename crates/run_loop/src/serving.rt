@@ -107,7 +107,7 @@ fn close<K: Sink>(alloc: Global, last: Last, sink: &mut K) -> Result<(), SendSto
     ensures closes { Closes (has_record last.halt) (K.sent sink.old) (K.sent sink.new)
         (stopped (halt_status last.halt) last.number) result }
     ensures fault { result ≡ Err SendStop.Fault → Rose (K.faults sink.old) (K.faults sink.new) }
-    ensures later { K.faults sink.old ≤ K.faults sink.new }
+    ensures monotone { K.faults sink.old ≤ K.faults sink.new }
 {
     if last.halt.has_record() {
         send_stopped(alloc, last.halt.status(), last.number, sink)

@@ -2,12 +2,12 @@
 use Rattle.std.proofs.Common.{◌≡◌, ℕ, true, false, cond, List, [], length, map, arith, refl, subst, Option, None, Some}
 use Rattle.std.proofs.lemmas.List.{length-map}
 use Rattle.small_card.specs.Lists.{Every}
-use Rattle.small_card.specs.Cards.{Managers}
+use Rattle.small_card.specs.Cards.{EimList}
 use Rattle.small_card.specs.Profiles.{Done, has_profile, enabled_of, arms_profile, arms, do_psmo}
-use Rattle.small_card.specs.Managers.{do_eco}
+use Rattle.small_card.specs.EimOperations.{do_eco}
 use Rattle.small_card.specs.Packages.{run_psmos, run_ecos, Executed, execute}
 use Rattle.small_card.specs.Ranges.{IsPsmo, IsEco, IsOneToEight, IsBody, IsTable, IsItem}
-use Rattle.small_card.specs.Valid.{AreManagers}
+use Rattle.small_card.specs.Valid.{AreEims}
 use Rattle.small_card.specs.declared.types.Profile.{Profile}
 use Rattle.small_card.specs.declared.types.Psmo.{Psmo}
 use Rattle.small_card.specs.declared.types.Eco.{Eco}
@@ -16,7 +16,7 @@ use Rattle.small_card.specs.declared.types.Body.{Body}
 use Rattle.small_card.specs.declared.types.Body.TheVariants.{Psmos, Ecos}
 use Rattle.small_card.proofs.ListLemmas.{every_push, every_map}
 use Rattle.small_card.proofs.Runs.{psmos_keep, ecos_keep, psmos_many, ecos_many}
-use Rattle.small_card.proofs.ManagerLemmas.{eco_keeps}
+use Rattle.small_card.proofs.EimLemmas.{eco_keeps}
 use Rattle.small_card.proofs.ProfileLemmas.{psmo_keeps, guards_run, enabled_there}
 
 abbrev Tabled : List Done → List Profile → Type 0
@@ -26,20 +26,20 @@ psmos_valid : (former : Option (List ℕ)) (ops : List Psmo) (ps : List Profile)
 psmos_valid former ops ps q h = psmos_keep former Tabled IsPsmo
     (λ done ts op _ t. let k = psmo_keeps former done ts op t.0 in (k.table, every_push (λ d. IsItem d.1) done (op, (do_psmo former done ts op).1) t.1 k.item)) ops [] ps q (h, tt)
 
-abbrev Managed : List Item → Managers → Type 0
-Managed done ms = AreManagers ms × Every IsItem done
+abbrev Managed : List Item → EimList → Type 0
+Managed done ms = AreEims ms × Every IsItem done
 
-ecos_valid : (ops : List Eco) (ms : Managers) → Every IsEco ops → AreManagers ms → Managed (run_ecos [] ms ops).1 (run_ecos [] ms ops).0
+ecos_valid : (ops : List Eco) (ms : EimList) → Every IsEco ops → AreEims ms → Managed (run_ecos [] ms ops).1 (run_ecos [] ms ops).0
 ecos_valid ops ms q h = ecos_keep Managed IsEco
-    (λ done ns op o t. let k = eco_keeps ns op o t.0 in (k.managers, every_push IsItem done (do_eco ns op).1 t.1 k.item)) ops [] ms q (h, tt)
+    (λ done ns op o t. let k = eco_keeps ns op o t.0 in (k.eims, every_push IsItem done (do_eco ns op).1 t.1 k.item)) ops [] ms q (h, tt)
 
 pub record IsExecuted (e : Executed) : Type 0 where
   pub table : IsTable e.profiles
-  pub entries : AreManagers e.managers
+  pub entries : AreEims e.eims
   pub many : IsOneToEight (length e.items)
   pub each : Every IsItem e.items
 
-pub executed_valid : (ps : List Profile) (ms : Managers) (body : Body) → IsBody body → IsTable ps → AreManagers ms → IsExecuted (execute ps ms body)
+pub executed_valid : (ps : List Profile) (ms : EimList) (body : Body) → IsBody body → IsTable ps → AreEims ms → IsExecuted (execute ps ms body)
 unfolding execute IsBody
 executed_valid ps ms (Psmos ops) q h k =
     let done : List Done = (run_psmos (enabled_of ps) [] ps ops).1 in
@@ -67,7 +67,7 @@ armed_there ops ps (Some f) a q e h =
       | false ↦ λ k s. absurd (cc)
     ] refl h
 
-pub executed_armed : (ps : List Profile) (ms : Managers) (body : Body) (a : List ℕ) → IsBody body → (execute ps ms body).armed ≡ Some a → has_profile a (execute ps ms body).profiles ≡ true
+pub executed_armed : (ps : List Profile) (ms : EimList) (body : Body) (a : List ℕ) → IsBody body → (execute ps ms body).armed ≡ Some a → has_profile a (execute ps ms body).profiles ≡ true
 unfolding execute IsBody
 executed_armed ps ms (Psmos ops) a q h = armed_there ops ps (enabled_of ps) a q.1 refl h
 executed_armed ps ms (Ecos ops) a q h = absurd (cc)

@@ -12,7 +12,7 @@ fresh_valid eid profiles e t = record {
   card = record {
     eid = e;
     profiles = t;
-    managers = record { few = omega arith; each = tt; apart = tt; next = record { some = omega arith; fits = omega arith } };
+    eims = record { few = omega arith; each = tt; apart = tt; next = record { some = omega arith; fits = omega arith } };
     results = record { few = omega arith; each = tt; rising = tt; next = record { some = omega arith; fits = omega arith } };
   };
   armed = λ a k. absurd (cc);

@@ -9,7 +9,7 @@ use Rattle.sgp_values.specs.Reading.{iccid_of, eid_of, eim_id_of, address_of, ke
 use Rattle.sgp_values.proofs.Reading.{iccid_takes, eid_takes, eim_id_takes, address_takes, key_takes}
 use Rattle.small_card.specs.Examples.{home, road, spare, profile, home_on, card_eid, start_card, e1, joined, order, switch, after}
 use Rattle.small_card.specs.Legal.{IsLegal, IsLegalFrom, May}
-use Rattle.small_card.specs.Managers.{last_association}
+use Rattle.small_card.specs.EimOperations.{last_association}
 use Rattle.small_card.specs.Ranges.{IsBody, IsPsmo, AreApart, IsTable}
 use Rattle.small_card.specs.Units.{rollback, remove}
 use Rattle.small_card.specs.Valid.{IsValid}
@@ -68,7 +68,7 @@ start_valid = record {
   card = record {
     eid = eid_fits;
     profiles = table_fits;
-    managers = record { few = omega arith; each = tt; apart = tt; next = record { some = omega arith; fits = omega arith } };
+    eims = record { few = omega arith; each = tt; apart = tt; next = record { some = omega arith; fits = omega arith } };
     results = record { few = omega arith; each = tt; rising = tt; next = record { some = omega arith; fits = omega arith } };
   };
   armed = λ a e. absurd (cc);

@@ -1,7 +1,7 @@
 pub mod ListLemmas
 pub mod Looking
 pub mod Runs
-pub mod ManagerLemmas
+pub mod EimLemmas
 pub mod ProfileLemmas
 pub mod ResultLemmas
 pub mod Accepting

@@ -6,7 +6,7 @@ use Rattle.small_card.specs.declared.types.PackageResult.{PackageResult}
 use Rattle.small_card.specs.declared.types.Armed.{Armed}
 
 -- The eIMs that the card knows stand in order, and the next one gets the next association.
-pub record Managers : Type 0 where
+pub record EimList : Type 0 where
   pub entries : List EimEntry
   pub next : ℕ
 
@@ -19,7 +19,7 @@ pub record Results : Type 0 where
 pub record SmallCard : Type 0 where
   pub eid : List ℕ
   pub profiles : List Profile
-  pub managers : Managers
+  pub eims : EimList
   pub results : Results
 
 -- A full card is a small card and what is armed: none, or a former profile and a result's number.

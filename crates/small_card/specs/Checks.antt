@@ -4,7 +4,7 @@ use Rattle.std.specs.List.{list_any}
 use Rattle.std.specs.Option.{option_or}
 use Rattle.small_card.specs.Lists.{same}
 use Rattle.small_card.specs.Cards.{SmallCard, Results}
-use Rattle.small_card.specs.Managers.{is_eim, has_eim}
+use Rattle.small_card.specs.EimOperations.{is_eim, has_eim}
 use Rattle.small_card.specs.Histories.{History, card_of, kept}
 use Rattle.small_card.specs.declared.types.EimEntry.{EimEntry}
 use Rattle.small_card.specs.declared.types.Package.{Package}
@@ -25,13 +25,13 @@ has_room rs = not (nat_le MOST_PENDING (length rs.pending)) && nat_le rs.next 42
 
 -- Unknown eIM: no entry has its identifier.
 unfoldable pub eim_refusal : SmallCard → Package → Option Refused
-eim_refusal c p = if has_eim p.eim c.managers.entries then None else Some (refused 2)
+eim_refusal c p = if has_eim p.eim c.eims.entries then None else Some (refused 2)
 
 -- After the verdict: another card's EID, a wrong association, a replay, no room.
 unfoldable pub later_refusal : SmallCard → ℕ → Package → Option Refused
 later_refusal c counter p =
     if not (same p.eid c.eid) then Some (refused 4)
-    else if not (has_association p.eim p.association c.managers.entries) then Some (refused 5)
+    else if not (has_association p.eim p.association c.eims.entries) then Some (refused 5)
     else if nat_le p.counter counter then Some (record { code = 6; kept = counter; received = p.counter })
     else if not (has_room c.results) then Some (refused 7)
     else None

@@ -1,6 +1,6 @@
 -- Cards, packages and histories of the worked examples.
 use Rattle.std.specs.Prelude.{ℕ, zero, suc, ◌+◌, List, [], ◌∷◌, Bool, true, false, None, reverse}
-use Rattle.small_card.specs.Cards.{SmallCard, FullCard, Managers, Results}
+use Rattle.small_card.specs.Cards.{SmallCard, FullCard, EimList, Results}
 use Rattle.small_card.specs.Units.{CardUnit, initial, load}
 use Rattle.small_card.specs.Histories.{History}
 use Rattle.small_card.specs.Packages.{Executed}
@@ -60,11 +60,11 @@ abbrev pub card_eid : List ℕ
 card_eid = 0 ∷ 1 ∷ 2 ∷ 3 ∷ 4 ∷ 5 ∷ 6 ∷ 7 ∷ 8 ∷ 9 ∷ 10 ∷ 11 ∷ 12 ∷ 13 ∷ 14 ∷ 15 ∷ []
 
 -- A card of this EID: its profiles, eIMs and pending results.
-abbrev pub card : List Profile → Managers → Results → SmallCard
-card ps ms rs = record { eid = card_eid; profiles = ps; managers = ms; results = rs }
+abbrev pub card : List Profile → EimList → Results → SmallCard
+card ps ms rs = record { eid = card_eid; profiles = ps; eims = ms; results = rs }
 
 -- These eIMs, and the association that the next one gets.
-abbrev pub eims : List EimEntry → ℕ → Managers
+abbrev pub eims : List EimEntry → ℕ → EimList
 eims es next = record { entries = es; next = next }
 
 -- These results are pending, and the next one gets this number.
@@ -72,7 +72,7 @@ abbrev pub results : List PackageResult → ℕ → Results
 results rs next = record { pending = rs; next = next }
 
 -- No eIM yet.
-abbrev pub nobody : Managers
+abbrev pub nobody : EimList
 nobody = eims [] 1
 
 -- A card directly after it was personalised with these profiles.
@@ -141,10 +141,10 @@ kept_result seq counter items rolled = record { seq = seq; eim = e1; association
 
 -- What operations on profiles leave, on a card without eIMs.
 abbrev pub left : List Profile → List Item → Executed
-left ps items = record { profiles = ps; managers = nobody; items = items; armed = None }
+left ps items = record { profiles = ps; eims = nobody; items = items; armed = None }
 
 -- The first entry with this counter, and the eIM added next has association 2.
-abbrev pub first : ℕ → Managers
+abbrev pub first : ℕ → EimList
 first counter = eims (entry e1 1 counter ∷ []) 2
 
 -- So many adds, of eIMs with the digits from this one on.

@@ -9,7 +9,7 @@ fresh eid profiles = record {
   card = record {
     eid = eid;
     profiles = profiles;
-    managers = record { entries = []; next = 1 };
+    eims = record { entries = []; next = 1 };
     results = record { pending = []; next = 1 };
   };
   armed = None;

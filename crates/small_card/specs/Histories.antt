@@ -95,4 +95,4 @@ entry_counters id association es = map (λ e. e.counter) (filter (λ e. same id 
 -- The greatest of 0, the start's counter of this pair and the counters of all its loads.
 unfoldable pub kept : History → List ℕ → ℕ → ℕ
 kept h id association =
-    max (greatest (entry_counters id association h.start.card.managers.entries)) (greatest (load_counters id association h.units))
+    max (greatest (entry_counters id association h.start.card.eims.entries)) (greatest (load_counters id association h.units))

@@ -5,7 +5,7 @@ use Rattle.small_card.specs.Cards.{SmallCard, FullCard}
 use Rattle.small_card.specs.Units.{CardUnit, initial, load, rollback, remove, is_pending}
 use Rattle.small_card.specs.Histories.{History, card_of, former_of, load_counters, entry_counters}
 use Rattle.small_card.specs.Checks.{value_refusal}
-use Rattle.small_card.specs.Managers.{last_association}
+use Rattle.small_card.specs.EimOperations.{last_association}
 use Rattle.small_card.specs.Ranges.{IsPackage}
 use Rattle.small_card.specs.Valid.{IsValid}
 use Rattle.sgp_values.specs.Ranges.{IsEimId, IsAddress, IsKey}
@@ -21,8 +21,8 @@ pub record MayInitial (c : SmallCard) (i a k : List ℕ) : Type 0 where
   pub id : IsEimId i
   pub address : IsAddress a
   pub key : IsKey k
-  pub empty : c.managers.entries ≡ []
-  pub next : c.managers.next < last_association
+  pub empty : c.eims.entries ≡ []
+  pub next : c.eims.next < last_association
 
 -- A unit may happen next: a rollback is permitted, a removed result is pending.
 unfoldable pub May : History → CardUnit → Type 0
@@ -47,4 +47,4 @@ IsBelow n m = m < n
 -- For each pair of identifier and association the loads' counters rise, each above the start's.
 pub record IsOnce (h : History) : Type 0 where
   pub rising : (id : List ℕ) (association : ℕ) → EveryPair IsBelow (load_counters id association h.units)
-  pub above : (id : List ℕ) (association : ℕ) → Every (λ n. Every (IsBelow n) (entry_counters id association h.start.card.managers.entries)) (load_counters id association h.units)
+  pub above : (id : List ℕ) (association : ℕ) → Every (λ n. Every (IsBelow n) (entry_counters id association h.start.card.eims.entries)) (load_counters id association h.units)

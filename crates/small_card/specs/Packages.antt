@@ -1,8 +1,8 @@
 -- A package: its operations in order, its result, and the profile that it arms.
 use Rattle.std.specs.Prelude.{ℕ, ◌+◌, ◌==◌, Bool, true, false, List, [], ◌∷◌, ◌++◌, map, if◌then◌else◌, Option, Some, None}
-use Rattle.small_card.specs.Cards.{SmallCard, Managers, Results}
+use Rattle.small_card.specs.Cards.{SmallCard, EimList, Results}
 use Rattle.small_card.specs.Profiles.{Done, enabled_of, arms, do_psmo}
-use Rattle.small_card.specs.Managers.{with_counter, do_eco}
+use Rattle.small_card.specs.EimOperations.{with_counter, do_eco}
 use Rattle.small_card.specs.declared.types.Profile.{Profile}
 use Rattle.small_card.specs.declared.types.Psmo.{Psmo}
 use Rattle.small_card.specs.declared.types.Eco.{Eco}
@@ -35,7 +35,7 @@ run_psmos former done ps (op ∷ ops) =
     if is_done one.1 then more else (one.0, now)
 
 -- The operations on eIMs are executed in order and stop after the first that isn't done.
-unfoldable pub run_ecos : List Item → Managers → List Eco → Managers × List Item
+unfoldable pub run_ecos : List Item → EimList → List Eco → EimList × List Item
 run_ecos done ms [] = (ms, done)
 run_ecos done ms (op ∷ ops) =
     let one = do_eco ms op in
@@ -46,23 +46,23 @@ run_ecos done ms (op ∷ ops) =
 -- What a package's operations leave of the card, their items, and the profile that they armed.
 pub record Executed : Type 0 where
   pub profiles : List Profile
-  pub managers : Managers
+  pub eims : EimList
   pub items : List Item
   pub armed : Option (List ℕ)
 
 -- A body is executed on the card's profiles or on its eIMs; what was done stays.
-unfoldable pub execute : List Profile → Managers → Body → Executed
+unfoldable pub execute : List Profile → EimList → Body → Executed
 execute ps ms (Psmos ops) =
     let former = enabled_of ps in
     let end = run_psmos former [] ps ops in
-    record { profiles = end.0; managers = ms; items = map (λ d. d.1) end.1; armed = if arms former end.1 then former else None }
+    record { profiles = end.0; eims = ms; items = map (λ d. d.1) end.1; armed = if arms former end.1 then former else None }
 execute ps ms (Ecos ops) =
     let end = run_ecos [] ms ops in
-    record { profiles = ps; managers = end.0; items = end.1; armed = None }
+    record { profiles = ps; eims = end.0; items = end.1; armed = None }
 
 -- The entry's counter becomes the package's, then the operations are executed.
 unfoldable pub executed : SmallCard → Package → Executed
-executed c p = execute c.profiles (record c.managers { entries = with_counter p.eim p.counter c.managers.entries }) p.body
+executed c p = execute c.profiles (record c.eims { entries = with_counter p.eim p.counter c.eims.entries }) p.body
 
 -- The result gets the next sequence number and one item for each executed operation.
 unfoldable pub result_of : SmallCard → Package → PackageResult

@@ -4,7 +4,7 @@ use Rattle.std.specs.List.{list_any}
 use Rattle.small_card.specs.Lists.{without}
 use Rattle.small_card.specs.Cards.{SmallCard, FullCard, Results}
 use Rattle.small_card.specs.Profiles.{enabled_alone}
-use Rattle.small_card.specs.Managers.{do_eco}
+use Rattle.small_card.specs.EimOperations.{do_eco}
 use Rattle.small_card.specs.Packages.{executed, result_of, with_result}
 use Rattle.small_card.specs.declared.types.Eco.TheVariants as eco
 use Rattle.small_card.specs.declared.types.Package.{Package}
@@ -46,7 +46,7 @@ unfoldable pub loaded : SmallCard → Package → SmallCard
 loaded c p = record {
   eid = c.eid;
   profiles = (executed c p).profiles;
-  managers = (executed c p).managers;
+  eims = (executed c p).eims;
   results = with_result (result_of c p) c.results;
 }
 
@@ -57,7 +57,7 @@ rolled_back (Some a) c = record c { profiles = enabled_alone a.former c.profiles
 
 -- What a unit makes of a full card's card.
 unfoldable pub after_unit : FullCard → CardUnit → SmallCard
-after_unit f (initial id address key) = record (f.card) { managers = (do_eco f.card.managers (eco.Add id address key)).0 }
+after_unit f (initial id address key) = record (f.card) { eims = (do_eco f.card.eims (eco.Add id address key)).0 }
 after_unit f (load p) = loaded f.card p
 after_unit f rollback = rolled_back f.armed f.card
 after_unit f (remove seq) = record (f.card) { results = without_result seq f.card.results }

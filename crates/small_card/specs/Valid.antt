@@ -2,7 +2,7 @@
 use Rattle.std.specs.Prelude.{ℕ, ◌≡◌, ◌≤◌, ◌<◌, ◌≢◌, Bool, true, List, length, Some, ◌&&◌, not}
 use Rattle.std.specs.List.{list_any}
 use Rattle.small_card.specs.Lists.{Every, EveryPair}
-use Rattle.small_card.specs.Cards.{SmallCard, FullCard, Managers, Results}
+use Rattle.small_card.specs.Cards.{SmallCard, FullCard, EimList, Results}
 use Rattle.small_card.specs.Profiles.{has_profile}
 use Rattle.small_card.specs.Ranges.{IsNumber, IsTable, IsResult, IsBefore, greatest_counter}
 use Rattle.small_card.specs.Units.{has_seq}
@@ -28,7 +28,7 @@ pub record AreEntriesApart (d e : EimEntry) : Type 0 where
   pub associations : d.association ≢ e.association
 
 -- At most 8 eIMs are in range and apart, and the next association is from 1.
-pub record AreManagers (ms : Managers) : Type 0 where
+pub record AreEims (ms : EimList) : Type 0 where
   pub few : length ms.entries ≤ MOST_EIMS
   pub each : Every (IsEntry ms.next) ms.entries
   pub apart : EveryPair AreEntriesApart ms.entries
@@ -50,7 +50,7 @@ pub record AreResults (rs : Results) : Type 0 where
 pub record IsValidCard (c : SmallCard) : Type 0 where
   pub eid : IsEid c.eid
   pub profiles : IsTable c.profiles
-  pub managers : AreManagers c.managers
+  pub eims : AreEims c.eims
   pub results : AreResults c.results
 
 -- The result with this number is pending, and isn't marked.

@@ -6,7 +6,7 @@ ghost use Rattle.small_card.specs.Examples.{e1, e2, e9, entry, entries, joined, 
 ghost use Rattle.small_card.specs.Examples.{order, switch, swap, discard, switch_delete, show, leave, listing, loads, left, kept_result};
 ghost use Rattle.small_card.specs.Histories.{card_of, former_of, kept};
 ghost use Rattle.small_card.specs.Legal.{IsLegal};
-ghost use Rattle.small_card.specs.Managers.{do_eco};
+ghost use Rattle.small_card.specs.EimOperations.{do_eco};
 ghost use Rattle.small_card.specs.Packages.{execute, is_done};
 ghost use Rattle.small_card.specs.Profiles.{do_psmo};
 ghost use Rattle.small_card.specs.Units.{initial, load, rollback, remove, is_pending};
@@ -64,7 +64,7 @@ pub fn packages_worked()
     ensures undone { map is_done (item.Enable 1 ∷ item.Enable 2 ∷ item.Disable 1 ∷ item.Disable 2 ∷ item.Delete 1 ∷ item.Delete 2 ∷ item.Delete 3 ∷ item.Add 1 0 ∷ item.Add 2 0 ∷ item.Add 3 0 ∷ item.Update 1 ∷ item.Dropped 1 ∷ [])
         ≡ replicate 12 false }
     ensures stopped_eims { execute all_off (first 5) (Ecos (eco.Delete e2 ∷ eco.List ∷ []))
-        ≡ record (left all_off (item.Dropped 1 ∷ [])) { managers = first 5 } }
+        ≡ record (left all_off (item.Dropped 1 ∷ [])) { eims = first 5 } }
     ensures stopped { execute all_off nobody (Psmos (psmo.Enable home false ∷ psmo.Disable absent ∷ psmo.List ∷ []))
         ≡ left home_on (item.Enable 0 ∷ item.Disable 1 ∷ []) }
     ensures swapped { execute home_on nobody swap
@@ -79,7 +79,7 @@ pub fn packages_worked()
     ensures stays_armed { execute home_on nobody (Psmos (psmo.Enable road true ∷ psmo.Enable spare false ∷ []))
         ≡ record (left (table false false true) (item.Enable 0 ∷ item.Enable 0 ∷ [])) { armed = Some home } }
     ensures none_before { execute all_off nobody switch ≡ left road_on (item.Enable 0 ∷ []) }
-    ensures goes_on { execute all_off (first 5) leave ≡ record (left all_off (item.Dropped 2 ∷ item.Eims [] ∷ [])) { managers = eims [] 2 } }
+    ensures goes_on { execute all_off (first 5) leave ≡ record (left all_off (item.Dropped 2 ∷ item.Eims [] ∷ [])) { eims = eims [] 2 } }
     ensures shown { card_of (after all_off (joined ∷ order 1 (Psmos (psmo.Enable home false ∷ psmo.Disable absent ∷ psmo.List ∷ [])) ∷ []))
         ≡ card home_on (first 1) (results (kept_result 1 1 (item.Enable 0 ∷ item.Disable 1 ∷ []) false ∷ []) 2) }
 {}
@@ -134,13 +134,13 @@ pub fn eims_worked()
         ≡ card all_off (eims (entry e9 2 0 ∷ []) 3) (results (kept_result 1 1 (item.Dropped 2 ∷ item.Eims [] ∷ []) false ∷ []) 2) }
     ensures numbered { (card_of (after all_off (joined ∷ order 1 (Ecos (adds 97 8)) ∷ []))).results.pending
         ≡ kept_result 1 1 (item.Add 0 2 ∷ item.Add 0 3 ∷ item.Add 0 4 ∷ item.Add 0 5 ∷ item.Add 0 6 ∷ item.Add 0 7 ∷ item.Add 0 8 ∷ item.Add 2 0 ∷ []) false ∷ [] }
-    ensures full { (card_of (after all_off (joined ∷ order 1 (Ecos (adds 97 8)) ∷ []))).managers
+    ensures full { (card_of (after all_off (joined ∷ order 1 (Ecos (adds 97 8)) ∷ []))).eims
         ≡ eims (entry e1 1 1 ∷ entries 97 2 7) 9 }
     ensures counter_first { (card_of (after all_off (joined ∷ order 1 (Ecos (eco.List ∷ [])) ∷ []))).results.pending
         ≡ kept_result 1 1 (item.Eims (record { id = e1; address = []; association = 1; counter = 1 } ∷ []) ∷ []) false ∷ [] }
-    ensures rejoined { (card_of (after all_off (joined ∷ order 1 (Ecos (eco.Delete e1 ∷ eco.Add e1 [] [] ∷ [])) ∷ []))).managers
+    ensures rejoined { (card_of (after all_off (joined ∷ order 1 (Ecos (eco.Delete e1 ∷ eco.Add e1 [] [] ∷ [])) ∷ []))).eims
         ≡ eims (entry e1 2 0 ∷ []) 3 }
-    ensures new_number { (card_of (after all_off (joined ∷ order 1 (Ecos (adds 50 1)) ∷ order 2 (Ecos (eco.Delete e2 ∷ adds 50 1)) ∷ []))).managers
+    ensures new_number { (card_of (after all_off (joined ∷ order 1 (Ecos (adds 50 1)) ∷ order 2 (Ecos (eco.Delete e2 ∷ adds 50 1)) ∷ []))).eims
         ≡ eims (entry e1 1 2 ∷ entry e2 3 0 ∷ []) 4 }
 {}
 

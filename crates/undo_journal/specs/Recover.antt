@@ -32,7 +32,7 @@ IfNoMemory (Err NoMemory) P = P
 -- on every chip: the count of faults never falls, and the end Failed comes only where it rose
 pub record HasCauseOfEnd {T : Type 0} (old new : Seen) (result : Result T RecoverEnd) : Type 0 where
   pub told : new.told ≡ old.told
-  pub later : old.faults ≤ new.faults
+  pub monotone : old.faults ≤ new.faults
   pub failed : IsErrOf result Failed → Rose old.faults new.faults
 
 -- nothing was written: the content is as before, and a cut may leave, and may have left, no image more

@@ -12,7 +12,7 @@ loop-at-init g c =
     let none : c.args.first + 0 ≡ c.args.first = omega arith in
     record {
       told = refl;
-      later = omega arith;
+      monotone = omega arith;
       spare = record { calls_left = omega arith; octets_left = omega arith };
       within = omega arith;
       looks = λ told. looks_none s0 told;
@@ -29,7 +29,7 @@ loop-at-preserved g c =
     let next : c.args.first + at + 1 ≡ c.args.first + (at + 1) = omega arith in
     record {
       told = e.cause.told ∙ inv.told;
-      later = omega (arith, e.cause.later, inv.later);
+      monotone = omega (arith, e.cause.monotone, inv.monotone);
       spare = record { calls_left = omega (arith, e.spare.calls_left, inv.spare.calls_left); octets_left = omega (arith, e.spare.octets_left, inv.spare.octets_left) };
       within = omega (arith, c.loop-at-test.true);
       looks = λ told. looks_then (inv.looks told) (e.tries (inv.told ∙ told));

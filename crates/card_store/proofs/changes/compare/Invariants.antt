@@ -11,7 +11,7 @@ invariant-loop-at g l =
     let s = g.C.Chip.sees l.chip in
     record {
       told : s.told ≡ s0.told;
-      later : s0.faults ≤ s.faults;
+      monotone : s0.faults ≤ s.faults;
       spare : Takes 0 0 s0 s;
       within : 256 * l.at ≤ length l.octets + 255;
       looks : IfTold s0 (Looks l.at s0 s);

@@ -13,7 +13,7 @@ use Rattle.card_store.proofs.finding.compare_slots.Goals as goal
 pub loop-slot-init : goal.loop-slot-init
 loop-slot-init g c = record {
   told = refl;
-  later = omega arith;
+  monotone = omega arith;
   spare = record { calls_left = omega arith; octets_left = omega arith };
   looks = λ told. looks_none (g.C.Chip.sees c.args.chip.now) told;
   listed = λ is. is;
@@ -34,7 +34,7 @@ loop-slot-preserved g c =
     let place = place_at pending seats slot ∙ ap (seated pending) (get_or_default seats slot None _ within) ∙ sym c.seated-place.ensures.result in
     record {
       told = e.cause.told ∙ inv.told;
-      later = omega (arith, e.cause.later, inv.later);
+      monotone = omega (arith, e.cause.monotone, inv.monotone);
       spare = record { calls_left = omega (arith, e.spare.calls_left, inv.spare.calls_left); octets_left = omega (arith, e.spare.octets_left, inv.spare.octets_left) };
       looks = λ told. subst (λ (n : ℕ). Looks n s0 s) next (looks_then (inv.looks told) (e.tries (inv.told ∙ told)));
       listed = λ is. e.listed (inv.listed is);

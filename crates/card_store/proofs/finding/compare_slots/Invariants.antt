@@ -13,7 +13,7 @@ invariant-loop-slot g l =
     let s = g.C.Chip.sees l.chip in
     record {
       told : s.told ≡ s0.told;
-      later : s0.faults ≤ s.faults;
+      monotone : s0.faults ≤ s.faults;
       spare : Takes 0 0 s0 s;
       looks : IfTold s0 (Looks (72 * l.slot) s0 s);
       listed : Lists 25 (25 + 81 * l.slot) l.fn.changes l.changes;

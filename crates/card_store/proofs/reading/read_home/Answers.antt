@@ -7,7 +7,7 @@ use Rattle.card_store.proofs.reading.read_home.Goals as goal
 pub loop-block-init : goal.loop-block-init
 loop-block-init g c = record {
   told = refl;
-  later = omega arith;
+  monotone = omega arith;
   spare = record { calls_left = omega arith; octets_left = omega arith };
   looks = λ told. looks_none (g.C.Chip.sees c.args.chip.now) told;
   home = λ told. c.new-home.ensures;
@@ -24,7 +24,7 @@ pub returns-then-is_err-clause-cause : goal.returns-then-is_err-clause-cause
 returns-then-is_err-clause-cause g c =
     let inv = c.loop-block.invariant in
     let e = c.in-Ok.ensures in
-    record { told = e.cause.told ∙ inv.told; later = omega (arith, e.cause.later, inv.later); cause = λ never. absurd (cc never) }
+    record { told = e.cause.told ∙ inv.told; monotone = omega (arith, e.cause.monotone, inv.monotone); cause = λ never. absurd (cc never) }
 
 pub returns-then-is_err-clause-spare : goal.returns-then-is_err-clause-spare
 returns-then-is_err-clause-spare g c =
@@ -45,7 +45,7 @@ loop-block-preserved g c =
     let appended : c.append.new.self.items ≡ c.loop-block.home ++ c.in-Ok.octets = grind arith in
     record {
       told = e.cause.told ∙ inv.told;
-      later = omega (arith, e.cause.later, inv.later);
+      monotone = omega (arith, e.cause.monotone, inv.monotone);
       spare = record { calls_left = omega (arith, e.spare.calls_left, inv.spare.calls_left); octets_left = omega (arith, e.spare.octets_left, inv.spare.octets_left) };
       looks = λ told. looks_then (inv.looks told) (e.told (inv.told ∙ told)).0;
       home = λ told.

@@ -10,7 +10,7 @@ invariant-loop-block g l =
     let s = g.C.Chip.sees l.chip in
     record {
       told : s.told ≡ s0.told;
-      later : s0.faults ≤ s.faults;
+      monotone : s0.faults ≤ s.faults;
       spare : Takes 0 0 s0 s;
       looks : IfTold s0 (Looks l.block s0 s);
       home : IfTold s0 (l.home ≡ take (256 * l.block) (home_in s0.reads));

@@ -6,7 +6,7 @@ use Rattle.card_store.proofs.seats.read_numbers.Goals as goal
 pub loop-slot-init : goal.loop-slot-init
 loop-slot-init g c = record {
   told = refl;
-  later = omega arith;
+  monotone = omega arith;
   spare = record { calls_left = omega arith; octets_left = omega arith };
   looks = λ told. looks_none (g.C.Chip.sees c.args.chip.now) told;
 }
@@ -17,7 +17,7 @@ loop-slot-preserved g c =
     let e = c.in-Ok.ensures in
     record {
       told = e.cause.told ∙ inv.told;
-      later = omega (arith, e.cause.later, inv.later);
+      monotone = omega (arith, e.cause.monotone, inv.monotone);
       spare = record { calls_left = omega (arith, e.spare.calls_left, inv.spare.calls_left); octets_left = omega (arith, e.spare.octets_left, inv.spare.octets_left) };
       looks = λ told. looks_then (inv.looks told) (e.tries (inv.told ∙ told));
     }

@@ -11,7 +11,7 @@ use Rattle.card_store.proofs.writing.write_blocks.Goals as goal
 pub loop-at-init : goal.loop-at-init
 loop-at-init g c = record {
   told = refl;
-  later = omega arith;
+  monotone = omega arith;
   calls = omega arith;
   octets = omega arith;
   opened = c.requires.opened;
@@ -56,7 +56,7 @@ loop-at-preserved g c =
     let s = g.C.Chip.sees c.loop-at.chip in
     record {
       told = e.cause.told ∙ inv.told;
-      later = omega (arith, e.cause.later, inv.later);
+      monotone = omega (arith, e.cause.monotone, inv.monotone);
       calls = omega (arith, e.spare.calls_left, inv.calls);
       octets = omega (arith, e.spare.octets_left, inv.octets);
       opened = e.opened;

@@ -1,6 +1,6 @@
 use Rattle.std.proofs.Common.{◌≡◌, inl, inr, ℕ, arith, take, reverse, subst}
 use Rattle.chip_port.specs.Medium.{Agree}
-use Rattle.chip_port.proofs.Settling.{stepped, agree_copied, agree_none, agree_sync, agree_wake}
+use Rattle.chip_port.proofs.Settling.{stepped, agree_copied, agree_none, agree_sync, agree_power_cycle}
 use Rattle.chip_port.proofs.medium.settle.Goals as goal
 
 pub loop-left-preserved-in-Write : goal.loop-left-preserved-in-Write
@@ -10,7 +10,7 @@ loop-left-preserved-in-Write c =
 pub returns-in-Sync : goal.returns-in-Sync
 returns-in-Sync c = elim c.in-Sync.is [
   | inl is ↦ agree_sync 346624 _ _ _ (stepped 346624 _ _ _ _ _ _ (omega arith) c.loop-left.invariant.0 is c.loop-left.invariant.1)
-  | inr is ↦ agree_wake 346624 _ _ _ _ (stepped 346624 _ _ _ _ _ _ (omega arith) c.loop-left.invariant.0 is.1 c.loop-left.invariant.1)
+  | inr is ↦ agree_power_cycle 346624 _ _ _ _ (stepped 346624 _ _ _ _ _ _ (omega arith) c.loop-left.invariant.0 is.1 c.loop-left.invariant.1)
 ]
 
 pub returns : goal.returns

@@ -1,5 +1,5 @@
 use Rattle.std.proofs.Common.{◌≡◌, map, take}
-use Rattle.small_card.specs.Managers.{line_of}
+use Rattle.small_card.specs.EimOperations.{line_of}
 use Rattle.eim_table.proofs.entries.lines_of.Given as goal
 
 abbrev pub invariant-loop-entry : goal.invariant-loop-entry

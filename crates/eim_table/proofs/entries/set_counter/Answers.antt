@@ -1,6 +1,6 @@
 use Rattle.std.proofs.Common.{◌∙◌, ap, arith, get_or, slice_set, List}
 use Rattle.std.proofs.lemmas.List.Edits.{map_over_more}
-use Rattle.small_card.specs.Managers.{counted}
+use Rattle.small_card.specs.EimOperations.{counted}
 use Rattle.small_card.specs.declared.types.EimEntry.{EimEntry}
 use Rattle.eim_table.proofs.entries.set_counter.Goals as goal
 

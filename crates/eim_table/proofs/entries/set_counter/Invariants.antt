@@ -1,5 +1,5 @@
 use Rattle.std.proofs.Common.{◌≡◌, map, take, drop, ◌++◌}
-use Rattle.small_card.specs.Managers.{counted}
+use Rattle.small_card.specs.EimOperations.{counted}
 use Rattle.eim_table.proofs.entries.set_counter.Given as goal
 
 abbrev pub invariant-loop-at : goal.invariant-loop-at

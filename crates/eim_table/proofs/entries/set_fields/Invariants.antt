@@ -1,5 +1,5 @@
 use Rattle.std.proofs.Common.{◌≡◌, map, take, drop, ◌++◌}
-use Rattle.small_card.specs.Managers.{with_fields}
+use Rattle.small_card.specs.EimOperations.{with_fields}
 use Rattle.eim_table.proofs.entries.set_fields.Given as goal
 
 abbrev pub invariant-loop-at : goal.invariant-loop-at

@@ -1,6 +1,6 @@
 use Rattle.std.proofs.Common.{◌∙◌, ap, sym}
 use Rattle.std.specs.Prelude.{position}
-use Rattle.small_card.specs.Managers.{is_eim}
+use Rattle.small_card.specs.EimOperations.{is_eim}
 use Rattle.eim_table.proofs.Keeping.{removed_eim, no_eim}
 use Rattle.eim_table.proofs.entries.take_out.Goals as goal
 

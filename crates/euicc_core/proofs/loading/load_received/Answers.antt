@@ -17,7 +17,7 @@ pub take-requires-clause-count : goal.take-requires-clause-count
 take-requires-clause-count c =
     let f = full_card c.args.card.now in
     let same : c.package.result.now ≡ c.args.received.load = c.package.ensures.value ∙ c.in-Ok.ensures.passes.1 in
-    subst (λ (p : Package). MayCount p.eim p.counter f.card.managers.entries) (sym same) (may_count c.args.received f.card.eid f.card.managers f.card.results c.in-Ok.ensures.passes.0)
+    subst (λ (p : Package). MayCount p.eim p.counter f.card.eims.entries) (sym same) (may_count c.args.received f.card.eid f.card.eims f.card.results c.in-Ok.ensures.passes.0)
 
 pub take-requires-clause-room : goal.take-requires-clause-room
 take-requires-clause-room c = c.in-Ok.ensures.passes.0.fits.room

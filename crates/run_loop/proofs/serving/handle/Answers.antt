@@ -15,4 +15,4 @@ returns-in-Err g c = rw c.from-number.ensures (c.in-Err.ensures c.args.part.now 
 pub returns : goal.returns
 returns g c =
     let all : c.loop-handled.handled ≡ MOST_FRAMES = omega (arith, c.loop-handled-test.false, c.loop-handled.auto.handled-end) in
-    rw c.from.ensures (read_no_more _ _ _ _ _ MOST_FRAMES c.no_further-stop.result (omega arith) (rw all at c.loop-handled.invariant) c.no_further-stop.ensures.none refl c.no_further-stop.ensures.later (omega arith) c.no_further-stop.ensures.fault)
+    rw c.from.ensures (read_no_more _ _ _ _ _ MOST_FRAMES c.no_further-stop.result (omega arith) (rw all at c.loop-handled.invariant) c.no_further-stop.ensures.none refl c.no_further-stop.ensures.monotone (omega arith) c.no_further-stop.ensures.fault)

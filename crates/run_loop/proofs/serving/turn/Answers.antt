@@ -14,13 +14,13 @@ pub returns-in_err-frame : goal.returns-in_err-frame
 returns-in_err-frame g c = λ first start count few p.
     let e = err_from_is_err_and c.from_residual-in_err-frame.result c.from_residual-in_err-frame.ensures.1 in
     let read = c.in_err-frame.ensures in
-    rw (e.1, e.2) (read_no_more _ _ _ _ _ count c.in_err-frame.field-0.0 (omega (arith, few)) p (read.next count) refl read.later (omega arith) (λ at. read.fault (ap (λ (s : ReadStop). Err s) at)))
+    rw (e.1, e.2) (read_no_more _ _ _ _ _ count c.in_err-frame.field-0.0 (omega (arith, few)) p (read.next count) refl read.monotone (omega arith) (λ at. read.fault (ap (λ (s : ReadStop). Err s) at)))
 
 pub returns-in_err-reply : goal.returns-in_err-reply
 returns-in_err-reply g c = λ first start count few p.
     let e = err_from_is_err_and c.from_residual-in_err-reply.result c.from_residual-in_err-reply.ensures.1 in
     let read = c.in_ok-frame.ensures in
-    rw (e.1, e.2) (answer_no_more _ _ _ _ _ _ count c.in_ok-frame.frame c.in_err-reply.field-0.0 (omega (arith, few)) p ((rw c.as_slice.ensures at c.in_err-reply.ensures) first) (read.next count) refl read.later (omega arith))
+    rw (e.1, e.2) (answer_no_more _ _ _ _ _ _ count c.in_ok-frame.frame c.in_err-reply.field-0.0 (omega (arith, few)) p ((rw c.as_slice.ensures at c.in_err-reply.ensures) first) (read.next count) refl read.monotone (omega arith))
 
 pub returns-in_err-send_frame : goal.returns-in_err-send_frame
 returns-in_err-send_frame g c = λ first start count few p.
@@ -28,11 +28,11 @@ returns-in_err-send_frame g c = λ first start count few p.
     let read = c.in_ok-frame.ensures in
     let replied = rw c.as_slice.ensures at c.in_ok-reply.ensures in
     let send = c.in_err-send_frame.ensures in
-    rw (e.1, e.2) (cut_short _ _ _ _ _ _ count c.in_ok-frame.frame replied.content few p (replied.stands first) (read.next count) (send.sent replied.content (c.as_slice-2.ensures ∙ replied.framed)) read.later send.later send.fault)
+    rw (e.1, e.2) (cut_short _ _ _ _ _ _ count c.in_ok-frame.frame replied.content few p (replied.stands first) (read.next count) (send.sent replied.content (c.as_slice-2.ensures ∙ replied.framed)) read.monotone send.monotone send.fault)
 
 pub returns : goal.returns
 returns g c = λ first start count few p.
     let read = c.in_ok-frame.ensures in
     let replied = rw c.as_slice.ensures at c.in_ok-reply.ensures in
     let send = c.in_ok-send_frame.ensures in
-    answered _ _ _ _ _ count c.in_ok-frame.frame replied.content p (replied.stands first) (read.next count) (send.sent replied.content (c.as_slice-2.ensures ∙ replied.framed)) read.later send.later
+    answered _ _ _ _ _ count c.in_ok-frame.frame replied.content p (replied.stands first) (read.next count) (send.sent replied.content (c.as_slice-2.ensures ∙ replied.framed)) read.monotone send.monotone

@@ -24,7 +24,7 @@ loop-entry-init g c =
     let m = length c.args.blocks.now in
     record {
       told = w.cause.told;
-      later = w.cause.later;
+      monotone = w.cause.monotone;
       calls = omega (arith, w.spare.calls_left);
       octets = omega (arith, w.spare.octets_left);
       ran = λ told.
@@ -58,7 +58,7 @@ loop-entry-preserved g c =
     let few = c.requires.blocks.few in
     record {
       told = e.cause.told ∙ inv.told;
-      later = omega (arith, e.cause.later, inv.later);
+      monotone = omega (arith, e.cause.monotone, inv.monotone);
       calls = omega (arith, e.spare.calls_left, inv.calls);
       octets = omega (arith, e.spare.octets_left, inv.octets);
       ran = λ told.

@@ -8,7 +8,7 @@ use Rattle.undo_journal.proofs.keep.copy_old.Given as goal
 abbrev pub invariant-loop-entry : goal.invariant-loop-entry
 invariant-loop-entry g l = record {
   told : (g.C.Chip.sees l.chip).told ≡ (g.C.Chip.sees l.fn.chip).told;
-  later : (g.C.Chip.sees l.fn.chip).faults ≤ (g.C.Chip.sees l.chip).faults;
+  monotone : (g.C.Chip.sees l.fn.chip).faults ≤ (g.C.Chip.sees l.chip).faults;
   calls : (g.C.Chip.sees l.fn.chip).spare.calls ≤ (g.C.Chip.sees l.chip).spare.calls + (l.entry + 1);
   octets : (g.C.Chip.sees l.fn.chip).spare.octets ≤ (g.C.Chip.sees l.chip).spare.octets + (2 + 2 * length l.blocks + 256 * l.entry);
   ran : (g.C.Chip.sees l.fn.chip).told ≡ true → Ran (2 * l.entry + 1) true (Torn 512 173824 (g.C.Chip.sees l.fn.chip).reads) (g.C.Chip.sees l.fn.chip) (g.C.Chip.sees l.chip);

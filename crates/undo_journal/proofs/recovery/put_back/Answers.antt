@@ -25,7 +25,7 @@ loop-at-init g c =
     let s0 = g.C.Chip.sees c.args.chip.now in
     record {
       told = refl;
-      later = omega arith;
+      monotone = omega arith;
       calls = omega arith;
       octets = omega arith;
       run = λ told copies before all. (ran_none (IsOpenOver (entries c.args.directory.now) copies before) s0 told all, (all s0.reads (g.met.C.Chip.sound c.args.chip.now told).reads_now).home);
@@ -53,7 +53,7 @@ loop-at-preserved g c =
     let e = c.in_ok-restore.ensures in
     record {
       told = e.cause.told ∙ inv.told;
-      later = omega (arith, e.cause.later, inv.later);
+      monotone = omega (arith, e.cause.monotone, inv.monotone);
       calls = omega (arith, e.spare.calls_left, inv.calls);
       octets = omega (arith, e.spare.octets_left, inv.octets);
       run = λ told copies before all.

@@ -7,7 +7,7 @@ use Rattle.undo_journal.proofs.recovery.put_back.Given as goal
 abbrev pub invariant-loop-at : goal.invariant-loop-at
 invariant-loop-at g l = record {
   told : (g.C.Chip.sees l.chip).told ≡ (g.C.Chip.sees l.fn.chip).told;
-  later : (g.C.Chip.sees l.fn.chip).faults ≤ (g.C.Chip.sees l.chip).faults;
+  monotone : (g.C.Chip.sees l.fn.chip).faults ≤ (g.C.Chip.sees l.chip).faults;
   calls : (g.C.Chip.sees l.fn.chip).spare.calls ≤ (g.C.Chip.sees l.chip).spare.calls + l.at;
   octets : (g.C.Chip.sees l.fn.chip).spare.octets ≤ (g.C.Chip.sees l.chip).spare.octets + 256 * l.at;
   run : (g.C.Chip.sees l.fn.chip).told ≡ true → (copies before : List ℕ) → EachOf (g.C.Chip.sees l.fn.chip).leaves (IsOpenOver (entries l.directory) copies before)

@@ -1,7 +1,7 @@
 use Rattle.std.proofs.Common.{◌≡◌, ◌∙◌, ◌+◌, ap, sym, refl, arith, false, length, List, [], ◌∷◌}
 use Rattle.std.proofs.lemmas.List.{length-append}
-use Rattle.small_card.specs.Cards.{Managers}
-use Rattle.small_card.specs.Managers.{has_eim, do_eco}
+use Rattle.small_card.specs.Cards.{EimList}
+use Rattle.small_card.specs.EimOperations.{has_eim, do_eco}
 use Rattle.small_card.specs.declared.types.Eco.TheVariants as eco
 use Rattle.small_card.specs.declared.types.EimEntry.{EimEntry}
 use Rattle.eim_table.specs.Adding.{item_of}
@@ -23,4 +23,4 @@ unfolding item_of
 returns-clause-operation c =
     let fresh : has_eim c.args.id c.self.inside.entries.items ≡ false = ap (has_eim c.args.id) (sym c.as_slice.ensures) ∙ sym c.if-has_eim.ensures in
     add_done c.args.id c.args.address c.args.key c.self.inside.entries.items c.put_last.new.entries.items c.self.inside.next fresh (omega (arith, c.len.ensures)) (omega arith) c.put_last.ensures.items
-    ∙ ap (λ (ms : Managers). do_eco ms (eco.Add c.args.id c.args.address c.args.key)) c.self.view_is
+    ∙ ap (λ (ms : EimList). do_eco ms (eco.Add c.args.id c.args.address c.args.key)) c.self.view_is

@@ -2,7 +2,7 @@
 use Rattle.std.specs.Prelude.{ℕ, ◌+◌, ◌==◌, Bool, true, false, not, unwrap_or, List, [], ◌∷◌, ◌++◌, map, length, nat_le, if◌then◌else◌, Option}
 use Rattle.std.specs.List.{list_any}
 use Rattle.small_card.specs.Lists.{same, without}
-use Rattle.small_card.specs.Cards.{Managers}
+use Rattle.small_card.specs.Cards.{EimList}
 use Rattle.small_card.specs.declared.types.EimEntry.{EimEntry}
 use Rattle.small_card.specs.declared.types.EimLine.{EimLine}
 use Rattle.small_card.specs.declared.types.Eco.{Eco}
@@ -47,7 +47,7 @@ unfoldable pub with_counter : List ℕ → ℕ → List EimEntry → List EimEnt
 with_counter id counter es = map (counted id counter) es
 
 -- The entry goes last, with counter 0 and the next association, which rises.
-unfoldable pub added : List ℕ → List ℕ → List ℕ → Managers → Managers
+unfoldable pub added : List ℕ → List ℕ → List ℕ → EimList → EimList
 added id address key ms = record {
   entries = ms.entries ++ record { id = id; address = address; key = key; counter = 0; association = ms.next } ∷ [];
   next = ms.next + 1;
@@ -63,7 +63,7 @@ is_empty_list [] = true
 is_empty_list (e ∷ es) = false
 
 -- What an operation leaves, and its item.
-unfoldable pub do_eco : Managers → Eco → Managers × Item
+unfoldable pub do_eco : EimList → Eco → EimList × Item
 do_eco ms (eco.Add id address key) =
     if has_eim id ms.entries then (ms, item.Add 1 0)
     else if nat_le MOST_EIMS (length ms.entries) then (ms, item.Add 2 0)

@@ -1,6 +1,6 @@
 use Rattle.std.proofs.Common.{reverse}
 use Rattle.chip_port.proofs.Settling.{kept_synced, kept_junk}
-use Rattle.chip_port.proofs.medium.Medium.wake.Goals as goal
+use Rattle.chip_port.proofs.medium.Medium.power_cycle.Goals as goal
 
 pub settle-requires : goal.settle-requires
 settle-requires c =
