@@ -7,10 +7,11 @@ ghost use Rattle.small_card.specs.declared.types.Eco.{Eco};
 ghost use Rattle.iot_schedule.specs.Words.{spaced};
 ghost use Rattle.iot_schedule.specs.Spelling.{address_text, key_text, optional_text, enable_text, psmo_text, eco_text, psmo_entry, eco_entry, body_words};
 
-use crate::token_writing::{put_digits, put_text};
+use crate::token_writing::put_digits;
 use iot_bytes::{NoMemory, Row};
 use sgp_values::{Address, EimId, Key};
 use small_card::{Body, Eco, Psmo};
+use trace_text::put_text;
 
 fn enable_name(rollback: bool) -> &'static [u8]
     ensures { result.now ≡ enable_text rollback }

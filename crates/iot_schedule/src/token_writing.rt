@@ -12,16 +12,7 @@ use chip_port::Tear;
 use iot_bytes::{NoMemory, Row, put_decimal, put_hex};
 use sgp_values::{Address, Eid, Key};
 use small_card::Profile;
-
-/// Appends a label and a text behind it.
-#[tactic(auto, using(crate::proofs::Appending::appended))]
-pub(crate) fn put_text(out: &mut Row<u8>, label: &[u8], text: &[u8]) -> Result<(), NoMemory>
-    ensures ok { OnOk result (out.new ≡ out.old ++ (label.now ++ text.now)) }
-    ensures err { OnErr result (take (length out.old) out.new ≡ out.old) }
-{
-    out.append(label)?;
-    out.append(text)
-}
+use trace_text::put_text;
 
 /// Appends a label and the digits of octets behind it.
 #[tactic(auto, using(crate::proofs::Appending::appended))]

@@ -8,8 +8,11 @@ ghost use Rattle.trace_text.specs.Texts.{mark_text};
 use iot_bytes::{NoMemory, Row, put_decimal};
 
 /// Appends a label and a text behind it.
+///
+/// # Errors
+/// Where memory is wanting; a front of the two may then be left behind what was there before.
 #[tactic(auto, using(crate::proofs::Appending::appended))]
-pub(crate) fn put_text(out: &mut Row<u8>, label: &[u8], text: &[u8]) -> Result<(), NoMemory>
+pub fn put_text(out: &mut Row<u8>, label: &[u8], text: &[u8]) -> Result<(), NoMemory>
     ensures ok { OnOk result (out.new ≡ out.old ++ (label.now ++ text.now)) }
     ensures err { OnErr result (take (length out.old) out.new ≡ out.old) }
 {
