@@ -1,0 +1,16 @@
+pub mod Worlds
+pub mod Network
+pub mod Stepping
+pub mod Acting
+pub mod Lines
+pub mod Texts
+pub mod Printing
+pub mod Runs
+pub mod Octets
+pub mod Stretches
+pub mod Modems
+pub mod Taking
+pub mod Has
+pub mod Forms
+pub mod Lossless
+pub mod Examples

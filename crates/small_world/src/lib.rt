@@ -1,0 +1,14 @@
+//! The small world of a schedule, as definitions: what each line does to the card, the chip's plan,
+//! the managers (eIMs), the assistant (IPA), the messages between them and the modems, and what it
+//! prints. Runs of it, and their laws. `docs/WORLD.md` tells it.
+#![tactic(auto)]
+
+mod laws;
+mod reply;
+
+pub use laws::{
+    boots_show_one_card, commands_reach_the_card, histories_are_legal, marks_tell_the_history,
+    modems_are_told_in_turn, newest_forms_lead, no_result_is_lost, numbers_name_forms,
+    packages_are_taken_where_the_checks_accept, redelivered_packages_are_refused,
+};
+pub use reply::Reply;
