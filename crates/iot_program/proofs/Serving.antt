@@ -1,25 +1,25 @@
 -- A run of the card, by its status.
 use Rattle.std.specs.Prelude.{◌⊎◌}
-use Rattle.std.proofs.Common.{◌≡◌, ◌∙◌, ℕ, ◌≤◌, List, length, Option, Some, None, Result, Ok, Err, refl, sym, subst, inl, inr}
+use Rattle.std.proofs.Common.{◌≡◌, ◌∙◌, ℕ, ◌<◌, List, [], ◌∷◌, ◌++◌, length, Option, Some, None, refl, sym, ap, subst, inl, inr, arith}
+use Rattle.std.specs.List.{AllByRecursion}
 use Rattle.iot_bytes.specs.Causes.{Rose}
 use Rattle.small_card.specs.Cards.{FullCard}
-use Rattle.run_loop.specs.declared.halt.ReadStop.TheVariants as reading
+use Rattle.run_loop.specs.declared.halt.PartStop.{PartStop}
 use Rattle.run_loop.specs.declared.halt.PartStop.TheVariants as answering
-use Rattle.run_loop.specs.declared.halt.SendStop.{SendStop}
-use Rattle.run_loop.specs.declared.halt.SendStop.TheVariants as sending
-use Rattle.run_loop.specs.declared.halt.Halt.{Halt}
-use Rattle.run_loop.specs.declared.halt.Halt.TheVariants.{Reading, Answering, Sending}
 use Rattle.run_loop.specs.declared.halt.RunEnd.{RunEnd}
 use Rattle.run_loop.specs.declared.reading.TheConstants.{MOST_FRAMES}
 use Rattle.run_loop.specs.Edges.{Edge, HasCauses}
-use Rattle.run_loop.specs.Runs.{Ended, Reason}
-use Rattle.run_loop.specs.Status.{halt_status, exit_status}
+use Rattle.run_loop.specs.Frames.{framed, IsShort}
+use Rattle.run_loop.specs.Runs.{Ended}
+use Rattle.run_loop.specs.Status.{part_status, exit_status}
+use Rattle.run_loop.proofs.Breaking.{IsForm}
 use Rattle.run_loop.proofs.Mapping.{ended_map, status_two, status_three}
+use Rattle.run_loop.proofs.Stopping.{HasEnded, has_ended, complete as answered_whole, stops_torn, stops_limit, stops_unfit}
 use Rattle.iot_program.specs.declared.words.Form.{Form}
 use Rattle.iot_program.specs.Answering.{StandsFor, AreAnswered, StopsAt, LedTo, StoppedAt}
-use Rattle.iot_program.specs.Ends.{Served, Does}
+use Rattle.iot_program.specs.Cards.{Begins}
+use Rattle.iot_program.specs.Ends.{Served, Does, AreHandled, IsNoStart, StopsWith}
 use Rattle.iot_program.proofs.Histories.{no_reply_first}
-use Rattle.iot_program.proofs.Stopping.{HaltsBy, HasEnded}
 
 -- a run whose part began with no card
 pub served : (first now : Option FullCard) (status : ℕ) (old new : Edge) (end : RunEnd) → first ≡ None → status ≡ exit_status end.halt end.closing → Ended (LedTo first now) (StoppedAt first now) old new end → Served status old new
@@ -49,57 +49,44 @@ has_causes status old new s =
       write = λ three. causes.write (status_three s.end.halt s.end.closing (sym s.says ∙ three));
     }
 
--- why no more frames were answered, where neither the source nor the sink failed
-halted : (rest0 rest : Option (List ℕ)) (input : List ℕ) (gs : List (List ℕ)) (text : List ℕ) (halt : Halt) → rest0 ≡ Some input → length gs ≤ MOST_FRAMES → Reason (AreAnswered None) (StopsAt None) rest0 rest gs text halt
-    → (halt ≡ Reading reading.Fault → ⊥) → (halt ≡ Sending → ⊥) → (halt_status halt ≡ 6) ⊎ HasEnded (halt_status halt) input
-unfolding HaltsBy
-halted rest0 rest input gs text (Reading reading.End) told few r no_read no_write =
-    let (tail, parts, short, at) = r.1 input told in
-    inr (record { frames = gs; tail = tail; parts = parts; handled = record { few = few; short = short; begins = r.0.begins }; reason = inl (refl, at.0) })
-halted rest0 rest input gs text (Reading reading.Fault) told few r no_read no_write = absurd (no_read refl)
-halted rest0 rest input gs text (Reading reading.Torn) told few r no_read no_write =
-    let (tail, parts, short, at) = r.1 input told in
-    inr (record { frames = gs; tail = tail; parts = parts; handled = record { few = few; short = short; begins = r.0.begins }; reason = inr (inl (refl, at.0)) })
-halted rest0 rest input gs text (Reading reading.Limit) told few r no_read no_write =
-    let (tail, parts, short, at) = r.1 input told in
-    inr (record {
-      frames = gs;
-      tail = tail;
-      parts = parts;
-      handled = record { few = few; short = short; begins = r.0.begins };
-      reason = inr (inr (inl (
-        refl,
-        elim at [
-          | inl over ↦ inl (record { head = over.head; over = over.over })
-          | inr more ↦ inr (more.0, record { first = more.1.0; rest = more.1.1.rest; parts = more.1.1.parts; short = more.1.1.short })
-        ],
-      )));
-    })
-halted rest0 rest input gs text (Reading reading.NoMemory) told few r no_read no_write = inl refl
-halted rest0 rest input gs text (Answering answering.ChipFault) told few r no_read no_write = absurd r.1.reason
-halted rest0 rest input gs text (Answering answering.Malformed) told few r no_read no_write = absurd r.1.reason
-halted rest0 rest input gs text (Answering answering.NoMemory) told few r no_read no_write = inl refl
-halted rest0 rest input gs text (Answering answering.Unrecognised) told few r no_read no_write =
-    let (tail, parts, short, at) = r.2 input told in
-    let begins = r.1.answered.begins in
-    let (none, unfit) = no_reply_first gs r.0 begins r.1.reason in
-    inr (record {
-      frames = gs;
-      tail = tail;
-      parts = parts;
-      handled = record { few = few; short = short; begins = begins };
-      reason = inr (inr (inr (refl, none, record { found = record { first = r.0; rest = at.rest; parts = at.parts; short = at.short }; unfit = unfit })));
-    })
-halted rest0 rest input gs text Sending told few r no_read no_write = absurd (no_write refl)
+-- whole frames within the limits, the first of which personalises the card
+form : IsForm AreHandled IsNoStart
+form = record {
+  few = λ fs h. h.few;
+  short = λ fs h. h.short;
+  below = λ fs f u. omega (arith, ap length u.0);
+  fits = λ fs f ms h u.
+      let all : fs ++ f ∷ ms ≡ f ∷ ms = ap (λ (g : List (List ℕ)). g ++ f ∷ ms) u.0 in
+      let first : Begins None (f ∷ ms) = rw all at h.begins in
+      first u.1;
+}
 
-closes : (halt : Halt) (closing : Result (Unit {0}) SendStop) (input : List ℕ) → (halt_status halt ≡ 6) ⊎ HasEnded (halt_status halt) input → (closing ≡ Err sending.Fault → ⊥) → (exit_status halt closing ≡ 6) ⊎ HasEnded (exit_status halt closing) input
-closes halt (Ok done) input e no_write = e
-closes halt (Err sending.Fault) input e no_write = absurd (no_write refl)
-closes halt (Err sending.NoMemory) input e no_write = inl refl
+-- why a card stops at a frame
+unfit : (fs : List (List ℕ)) (text f : List ℕ) (stop : PartStop) → StopsAt None fs text f stop → length fs < MOST_FRAMES → AllByRecursion IsShort fs → (part_status stop ≡ 6) ⊎ ((part_status stop ≡ 8) × AreHandled fs × IsNoStart fs f)
+unfit fs text f answering.ChipFault r few short = absurd r.reason
+unfit fs text f answering.Malformed r few short = absurd r.reason
+unfit fs text f answering.NoMemory r few short = inl refl
+unfit fs text f answering.Unrecognised r few short =
+    inr (refl, record { few = omega (arith, few); short = short; begins = r.answered.begins }, no_reply_first fs f r.answered.begins r.reason)
 
 -- how a run ended where neither the source nor the sink failed
-pub has_ended : (status : ℕ) (old new : Edge) (input : List ℕ) → Served status old new → old.rest ≡ Some input → (Rose old.read_faults new.read_faults → ⊥) → (Rose old.write_faults new.write_faults → ⊥) → (status ≡ 6) ⊎ HasEnded status input
-has_ended status old new input s told no_read no_write =
-    let e = s.ended in
-    let before = halted old.rest new.rest input e.frames e.text s.end.halt told e.few e.reason (λ at. no_read (e.causes.read at)) (λ at. no_write (e.causes.write (inl at))) in
-    subst (λ (n : ℕ). (n ≡ 6) ⊎ HasEnded n input) (sym s.says) (closes s.end.halt s.end.closing input before (λ at. no_write (e.causes.write (inr at))))
+ended : (status : ℕ) (old new : Edge) (input : List ℕ) → Served status old new → old.rest ≡ Some input → (Rose old.read_faults new.read_faults → ⊥) → (Rose old.write_faults new.write_faults → ⊥) → (status ≡ 6) ⊎ HasEnded 8 AreHandled IsNoStart status input
+ended status old new input s told no_read no_write =
+    has_ended 8 AreHandled IsNoStart (AreAnswered None) (StopsAt None) (λ fs text a few short. record { few = few; short = short; begins = a.begins }) unfit status old new s.end input s.says s.ended told no_read no_write
+
+-- whole frames within the limits, the first of which personalises the card, are answered to their end
+pub complete : (status : ℕ) (old new : Edge) (input : List ℕ) (fs : List (List ℕ)) → Served status old new → old.rest ≡ Some input → input ≡ framed fs → AreHandled fs
+    → (Rose old.read_faults new.read_faults → ⊥) → (Rose old.write_faults new.write_faults → ⊥) → (status ≡ 0) ⊎ (status ≡ 6)
+complete status old new input fs s told is handled no_read no_write =
+    answered_whole 8 AreHandled IsNoStart form status input fs (ended status old new input s told no_read no_write) is handled
+
+-- what stops behind them ends the run with its status
+pub stops : (status : ℕ) (old new : Edge) (input : List ℕ) (fs : List (List ℕ)) (tail : List ℕ) → Served status old new → old.rest ≡ Some input → input ≡ framed fs ++ tail → AreHandled fs
+    → (Rose old.read_faults new.read_faults → ⊥) → (Rose old.write_faults new.write_faults → ⊥) → StopsWith fs tail status
+stops status old new input fs tail s told is handled no_read no_write =
+    let e = ended status old new input s told no_read no_write in
+    record {
+      torn = stops_torn 8 AreHandled IsNoStart form status input fs tail e is handled;
+      limit = stops_limit 8 AreHandled IsNoStart form status input fs tail e is handled;
+      unfit = stops_unfit 8 AreHandled IsNoStart form status input fs tail e is handled;
+    }

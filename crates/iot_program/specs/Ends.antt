@@ -1,10 +1,10 @@
 -- What a run reads and sends, by the form of its words and its status.
-use Rattle.std.specs.Prelude.{◌≡◌, ℕ, ◌<◌, ◌≤◌, ◌⊎◌, List, [], ◌++◌, length, Option, Some, None}
+use Rattle.std.specs.Prelude.{◌≡◌, ℕ, ◌≤◌, ◌⊎◌, List, [], length, Option, Some, None}
 use Rattle.std.specs.List.{AllByRecursion}
-use Rattle.iot_bytes.specs.Frames.{frame, announced, IsTorn}
-use Rattle.iot_bytes.specs.declared.frame.TheConstants.{FRAME_LIMIT}
+use Rattle.iot_bytes.specs.Frames.{IsTorn}
 use Rattle.run_loop.specs.declared.halt.RunEnd.{RunEnd}
 use Rattle.run_loop.specs.declared.reading.TheConstants.{MOST_FRAMES}
+use Rattle.run_loop.specs.Breaks.{PassesLimit, IsUnfit}
 use Rattle.run_loop.specs.Edges.{Edge}
 use Rattle.run_loop.specs.Frames.{IsShort}
 use Rattle.run_loop.specs.Runs.{Ended}
@@ -45,29 +45,18 @@ HandledBy form.Card fs = AreHandled fs
 HandledBy (form.Eim id eid) fs = parts.AreHandled eim_rule (new_eim id eid) fs
 HandledBy (form.Ipa eid) fs = parts.AreHandled (ipa_rule eid) [] fs
 
--- the octets begin with the length of a frame above the limit
-pub record IsOverLimit (octets : List ℕ) : Type 0 where
-  pub head : 4 ≤ length octets
-  pub over : FRAME_LIMIT < announced octets
-
--- the octets begin with a whole frame within the limit
-pub record HasFrame (octets : List ℕ) : Type 0 where
-  pub first : List ℕ
-  pub rest : List ℕ
-  pub parts : octets ≡ frame first ++ rest
-  pub short : IsShort first
-
--- the octets begin with a whole frame that doesn't personalise a card
-pub record IsUnfit (octets : List ℕ) : Type 0 where
-  pub found : HasFrame octets
-  pub unfit : reply_to None found.first ≡ None
-
--- behind these frames one more passes a limit: on its length, or on the count
-abbrev pub PassesLimit : List (List ℕ) → List ℕ → Type 0
-PassesLimit fs tail = IsOverLimit tail ⊎ ((length fs ≡ MOST_FRAMES) × HasFrame tail)
+-- no frame was handled, and this one doesn't personalise a card
+abbrev pub IsNoStart : List (List ℕ) → List ℕ → Type 0
+IsNoStart fs f = (fs ≡ []) × (reply_to None f ≡ None)
 
 -- the status where an input stops behind these frames, and neither a call failed nor memory was wanting but for 6
 pub record StopsWith (fs : List (List ℕ)) (tail : List ℕ) (status : ℕ) : Type 0 where
   pub torn : IsTorn tail → (status ≡ 5) ⊎ (status ≡ 6)
   pub limit : PassesLimit fs tail → (status ≡ 7) ⊎ (status ≡ 6)
-  pub unfit : fs ≡ [] → IsUnfit tail → (status ≡ 8) ⊎ (status ≡ 6)
+  pub unfit : IsUnfit IsNoStart fs tail → (status ≡ 8) ⊎ (status ≡ 6)
+
+-- the same by the form of the words
+abbrev pub StopsBy : Form → List (List ℕ) → List ℕ → ℕ → Type 0
+StopsBy form.Card fs tail status = StopsWith fs tail status
+StopsBy (form.Eim id eid) fs tail status = parts.StopsWith eim_rule (new_eim id eid) fs tail status
+StopsBy (form.Ipa eid) fs tail status = parts.StopsWith (ipa_rule eid) [] fs tail status

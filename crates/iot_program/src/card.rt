@@ -113,15 +113,21 @@ fn reply(alloc: Global, card: &mut Option<EuiccCard>, octets: &[u8]) -> Result<A
     }
 }
 
-impl Part for CardPart {
+impl Part<()> for CardPart {
     ghost use Rattle.iot_program.specs.Answering.{LedTo, StoppedAt};
     ghost use Rattle.iot_program.specs.Starting.{led_nowhere};
 
-    ghost behind = { λ first now fs text. LedTo first.card now.card fs text };
+    ghost behind = { λ first now fs text. LedTo first.0.card now.0.card fs text };
 
-    ghost stops = { λ first now fs text f stop. StoppedAt first.card now.card fs text f stop };
+    ghost stops = { λ first now fs text f stop. StoppedAt first.0.card now.0.card fs text f stop };
 
-    fn answer(&mut self, alloc: Global, octets: &[u8], out: &mut Row<u8>) -> Result<(), PartStop> {
+    fn answer(
+        &mut self,
+        alloc: Global,
+        _outside: &mut (),
+        octets: &[u8],
+        out: &mut Row<u8>,
+    ) -> Result<(), PartStop> {
         match reply(alloc, &mut self.card, octets) {
             Ok(answer) => match write_answer(&answer, out) {
                 Ok(()) => Ok(()),
@@ -131,5 +137,5 @@ impl Part for CardPart {
         }
     }
 
-    ghost begins = { λ first. led_nowhere first.card };
+    ghost begins = { λ first. led_nowhere first.0.card };
 }

@@ -5,7 +5,7 @@ ghost use Rattle.iot_bytes.specs.Causes.{Rose};
 ghost use Rattle.run_loop.specs.Edges.{edge, HasCauses};
 ghost use Rattle.run_loop.specs.Frames.{framed};
 ghost use Rattle.iot_program.specs.Words.{form_of};
-ghost use Rattle.iot_program.specs.Ends.{AreHandled, Does, HandledBy, Served, StopsWith};
+ghost use Rattle.iot_program.specs.Ends.{AreHandled, Does, HandledBy, Served, StopsBy, StopsWith};
 ghost use Rattle.iot_program.specs.declared.words.Form.{Form};
 
 use crate::card::CardPart;
@@ -40,7 +40,7 @@ fn run_card<S: Source, K: Sink>(alloc: Global, source: &mut S, sink: &mut K) -> 
         → StopsWith fs tail result }
 {
     let mut part = CardPart::none();
-    serve(alloc, &mut part, source, sink).status()
+    serve(alloc, &mut part, &mut (), source, sink).status()
 }
 
 // Does what a form of words asks for.
@@ -58,11 +58,11 @@ fn run_form<S: Source, K: Sink>(alloc: Global, form: Form, source: &mut S, sink:
         → ¬ Rose (S.faults source.old) (S.faults source.new)
         → ¬ Rose (K.faults sink.old) (K.faults sink.new)
         → (result ≡ 0) ⊎ (result ≡ 6) }
-    ensures stops { (input : List ℕ) (fs : List (List ℕ)) (tail : List ℕ) → form ≡ Form.Card
-        → S.rest source.old ≡ Some input → input ≡ framed fs ++ tail → AreHandled fs
+    ensures stops { (input : List ℕ) (fs : List (List ℕ)) (tail : List ℕ)
+        → S.rest source.old ≡ Some input → input ≡ framed fs ++ tail → HandledBy form fs
         → ¬ Rose (S.faults source.old) (S.faults source.new)
         → ¬ Rose (K.faults sink.old) (K.faults sink.new)
-        → StopsWith fs tail result }
+        → StopsBy form fs tail result }
 {
     match form {
         Form::Card => run_card(alloc, source, sink),
@@ -96,13 +96,14 @@ pub fn run<S: Source, K: Sink>(alloc: Global, words: &[String], source: &mut S, 
         → ¬ Rose (K.faults sink.old) (K.faults sink.new)
         → (result ≡ 0) ⊎ (result ≡ 6) }
     // An input that stops behind such frames ends the run with the status of its reason: torn, past
-    // a limit, or a first frame that doesn't personalise the card.
-    ensures stops { (input : List ℕ) (fs : List (List ℕ)) (tail : List ℕ)
-        → form_of (map string_bytes words.now) ≡ Some Form.Card
-        → S.rest source.old ≡ Some input → input ≡ framed fs ++ tail → AreHandled fs
+    // a limit, of `card` a first frame that doesn't personalise the card, and of `eim` and `ipa` a
+    // frame outside the grammar.
+    ensures stops { (form : Form) (input : List ℕ) (fs : List (List ℕ)) (tail : List ℕ)
+        → form_of (map string_bytes words.now) ≡ Some form
+        → S.rest source.old ≡ Some input → input ≡ framed fs ++ tail → HandledBy form fs
         → ¬ Rose (S.faults source.old) (S.faults source.new)
         → ¬ Rose (K.faults sink.old) (K.faults sink.new)
-        → StopsWith fs tail result }
+        → StopsBy form fs tail result }
 {
     match form_of_words(words) {
         Some(form) => run_form(alloc, form, source, sink),

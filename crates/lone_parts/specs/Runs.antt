@@ -1,8 +1,10 @@
 -- How a run of one part ends.
-use Rattle.std.specs.Prelude.{◌≡◌, ℕ, ◌≤◌, List, length}
+use Rattle.std.specs.Prelude.{◌≡◌, ℕ, ◌<◌, ◌≤◌, ◌⊎◌, List, length, None}
 use Rattle.std.specs.List.{AllByRecursion}
+use Rattle.iot_bytes.specs.Frames.{IsTorn}
 use Rattle.run_loop.specs.declared.halt.RunEnd.{RunEnd}
 use Rattle.run_loop.specs.declared.reading.TheConstants.{MOST_FRAMES}
+use Rattle.run_loop.specs.Breaks.{PassesLimit, IsUnfit}
 use Rattle.run_loop.specs.Edges.{Edge}
 use Rattle.run_loop.specs.Frames.{IsShort}
 use Rattle.run_loop.specs.Runs.{Ended}
@@ -22,3 +24,17 @@ pub record AreHandled {S : Type 0} (rule : Rule S) (s : S) (fs : List (List ℕ)
   pub short : AllByRecursion IsShort fs
   pub text : List ℕ
   pub folded : AreFolded rule s fs text
+
+-- behind these frames, which are in the part's grammar, this one isn't; a frame past the limit on the count isn't
+-- asked
+pub record IsOutside {S : Type 0} (rule : Rule S) (s : S) (fs : List (List ℕ)) (f : List ℕ) : Type 0 where
+  pub few : length fs < MOST_FRAMES
+  pub text : List ℕ
+  pub folded : AreFolded rule s fs text
+  pub unknown : rule folded.state f ≡ None
+
+-- the status where an input stops behind these frames, and neither a call failed nor memory was wanting but for 6
+pub record StopsWith {S : Type 0} (rule : Rule S) (s : S) (fs : List (List ℕ)) (tail : List ℕ) (status : ℕ) : Type 0 where
+  pub torn : IsTorn tail → (status ≡ 5) ⊎ (status ≡ 6)
+  pub limit : PassesLimit fs tail → (status ≡ 7) ⊎ (status ≡ 6)
+  pub outside : IsUnfit (IsOutside rule s) fs tail → (status ≡ 5) ⊎ (status ≡ 6)

@@ -106,15 +106,21 @@ fn reply(alloc: Global, eim: &mut Eim, octets: &[u8]) -> Result<EimOutput, PartS
     }
 }
 
-impl Part for EimPart {
+impl Part<()> for EimPart {
     ghost use Rattle.lone_parts.specs.Eims.{LedTo, StoppedAt};
     ghost use Rattle.lone_parts.specs.Starting.{eim_led_nowhere};
 
-    ghost behind = { λ first now fs text. LedTo first.eim now.eim fs text };
+    ghost behind = { λ first now fs text. LedTo first.0.eim now.0.eim fs text };
 
-    ghost stops = { λ first now fs text f stop. StoppedAt first.eim fs text f stop };
+    ghost stops = { λ first now fs text f stop. StoppedAt first.0.eim fs text f stop };
 
-    fn answer(&mut self, alloc: Global, octets: &[u8], out: &mut Row<u8>) -> Result<(), PartStop> {
+    fn answer(
+        &mut self,
+        alloc: Global,
+        _outside: &mut (),
+        octets: &[u8],
+        out: &mut Row<u8>,
+    ) -> Result<(), PartStop> {
         match reply(alloc, &mut self.eim, octets) {
             Ok(output) => match write_eim_output(&output, out) {
                 Ok(()) => Ok(()),
@@ -124,5 +130,5 @@ impl Part for EimPart {
         }
     }
 
-    ghost begins = { λ first. eim_led_nowhere first.eim };
+    ghost begins = { λ first. eim_led_nowhere first.0.eim };
 }

@@ -132,15 +132,21 @@ fn reply(alloc: Global, ipa: &mut Ipa, eid: Eid, octets: &[u8]) -> Result<Deeds,
     }
 }
 
-impl Part for IpaPart {
+impl Part<()> for IpaPart {
     ghost use Rattle.lone_parts.specs.Ipas.{LedTo, StoppedAt};
     ghost use Rattle.lone_parts.specs.Starting.{ipa_led_nowhere};
 
-    ghost behind = { λ first now fs text. LedTo first now fs text };
+    ghost behind = { λ first now fs text. LedTo first.0 now.0 fs text };
 
-    ghost stops = { λ first now fs text f stop. StoppedAt first fs text f stop };
+    ghost stops = { λ first now fs text f stop. StoppedAt first.0 fs text f stop };
 
-    fn answer(&mut self, alloc: Global, octets: &[u8], out: &mut Row<u8>) -> Result<(), PartStop> {
+    fn answer(
+        &mut self,
+        alloc: Global,
+        _outside: &mut (),
+        octets: &[u8],
+        out: &mut Row<u8>,
+    ) -> Result<(), PartStop> {
         match reply(alloc, &mut self.ipa, self.eid, octets) {
             Ok(deeds) => match write_deeds(&deeds, out) {
                 Ok(()) => Ok(()),
@@ -150,5 +156,5 @@ impl Part for IpaPart {
         }
     }
 
-    ghost begins = { λ first. ipa_led_nowhere first };
+    ghost begins = { λ first. ipa_led_nowhere first.0 };
 }

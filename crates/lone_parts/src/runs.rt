@@ -1,6 +1,6 @@
 //! A manager or an assistant alone, over the frames of a source.
 
-ghost use Rattle.std.specs.Prelude.{◌≡◌, ◌≢◌, ◌⊎◌, ℕ, List, [], Some};
+ghost use Rattle.std.specs.Prelude.{◌≡◌, ◌≢◌, ◌⊎◌, ◌++◌, ℕ, List, [], Some};
 ghost use Rattle.iot_bytes.specs.Causes.{Rose};
 ghost use Rattle.esipa_codec.specs.Assistant.{IpaEvent};
 ghost use Rattle.esipa_codec.specs.Eims.{new_eim};
@@ -8,7 +8,7 @@ ghost use Rattle.run_loop.specs.Edges.{edge, HasCauses};
 ghost use Rattle.run_loop.specs.Frames.{framed};
 ghost use Rattle.lone_parts.specs.Eims.{eim_rule};
 ghost use Rattle.lone_parts.specs.Ipas.{ipa_rule};
-ghost use Rattle.lone_parts.specs.Runs.{AreHandled, Ran};
+ghost use Rattle.lone_parts.specs.Runs.{AreHandled, Ran, StopsWith};
 
 use crate::eim_part::EimPart;
 use crate::ipa_part::IpaPart;
@@ -45,9 +45,17 @@ pub fn run_eim<S: Source, K: Sink>(
         → ¬ Rose (S.faults source.old) (S.faults source.new)
         → ¬ Rose (K.faults sink.old) (K.faults sink.new)
         → (result ≡ 0) ⊎ (result ≡ 6) }
+    // An input that stops behind such frames ends the run with the status of its reason: torn, past
+    // a limit, or a frame outside the grammar.
+    ensures stops { (input : List ℕ) (fs : List (List ℕ)) (tail : List ℕ)
+        → S.rest source.old ≡ Some input → input ≡ framed fs ++ tail
+        → AreHandled eim_rule (new_eim id eid) fs
+        → ¬ Rose (S.faults source.old) (S.faults source.new)
+        → ¬ Rose (K.faults sink.old) (K.faults sink.new)
+        → StopsWith eim_rule (new_eim id eid) fs tail result }
 {
     let mut part = EimPart::new(alloc, id, eid);
-    serve(alloc, &mut part, source, sink).status()
+    serve(alloc, &mut part, &mut (), source, sink).status()
 }
 
 /// Has a new assistant, which polls for the card with this EID, answer the frames of a source, and
@@ -71,7 +79,15 @@ pub fn run_ipa<S: Source, K: Sink>(alloc: Global, eid: Eid, source: &mut S, sink
         → ¬ Rose (S.faults source.old) (S.faults source.new)
         → ¬ Rose (K.faults sink.old) (K.faults sink.new)
         → (result ≡ 0) ⊎ (result ≡ 6) }
+    // An input that stops behind such frames ends the run with the status of its reason: torn, past
+    // a limit, or a frame outside the grammar.
+    ensures stops { (input : List ℕ) (fs : List (List ℕ)) (tail : List ℕ)
+        → S.rest source.old ≡ Some input → input ≡ framed fs ++ tail
+        → AreHandled (ipa_rule eid) [] fs
+        → ¬ Rose (S.faults source.old) (S.faults source.new)
+        → ¬ Rose (K.faults sink.old) (K.faults sink.new)
+        → StopsWith (ipa_rule eid) [] fs tail result }
 {
     let mut part = IpaPart::new(eid);
-    serve(alloc, &mut part, source, sink).status()
+    serve(alloc, &mut part, &mut (), source, sink).status()
 }

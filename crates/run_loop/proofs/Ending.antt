@@ -17,7 +17,7 @@ use Rattle.run_loop.specs.Frames.{IsTaken, NoFrame}
 use Rattle.run_loop.specs.Sends.{HasSent, HasSentInto, Closes, Closed}
 use Rattle.run_loop.specs.Status.{read_status, part_status, halt_status, has_record}
 use Rattle.run_loop.specs.Parts.{Walk, Stopping}
-use Rattle.run_loop.specs.Runs.{Progress, Halted, IsNumbered, SentBefore, SentFor, Ended, record_behind}
+use Rattle.run_loop.specs.Runs.{Progress, Halted, IsNumbered, SentBefore, SentFor, Ended, IsUnopened, record_behind}
 use Rattle.run_loop.proofs.Going.{sent-more, sent-into, sent-none, taken-more, taken-none, rose-since, rose-until}
 
 -- no frame was answered yet
@@ -82,7 +82,7 @@ read_no_more walk stops old before now count stop few p none same read_later wri
 }
 
 -- the part stops at a frame
-pub answer_no_more : (walk next : Walk) (stops : Stopping) (old before now : Edge) (count : ℕ) (f : List ℕ) (stop : PartStop) → count ≤ MOST_FRAMES → Progress walk old before count
+pub answer_no_more : (walk next : Walk) (stops : Stopping) (old before now : Edge) (count : ℕ) (f : List ℕ) (stop : PartStop) → count < MOST_FRAMES → Progress walk old before count
     → ((fs : List (List ℕ)) (text : List ℕ) → walk fs text → stops fs text f stop)
     → ((octets : List ℕ) → before.rest ≡ Some octets → IsTaken f octets now.rest) → now.sent ≡ before.sent
     → before.read_faults ≤ now.read_faults → before.write_faults ≤ now.write_faults → Halted next stops old now (count + 1) (Answering stop)
@@ -97,6 +97,7 @@ answer_no_more walk next stops old before now count f stop few p did taken same 
     λ input is.
         let (tail, parts, short, at) = p.taken input is in
         (tail, parts, short, taken tail at),
+    omega (arith, few, p.counted),
   );
   sent = λ sent0 is. same ∙ p.sent sent0 is;
   causes = record {
@@ -171,4 +172,16 @@ ended behind stops old rest reads sent sent' writes writes' number halt closing 
       | inr failed ↦ rose-since old.write_faults writes writes' h.causes.write_later (rose failed)
     ];
   };
+}
+
+-- before the first frame
+pub unopened : (rest sent sent' : Option (List ℕ)) (reads writes writes' : ℕ) (stop : PartStop) (closing : Result (Unit {0}) SendStop)
+    → Closes (has_record (Answering stop)) sent sent' (stopped (part_status stop) 0) closing → writes ≤ writes' → (closing ≡ Err sending.Fault → Rose writes writes')
+    → IsUnopened stop (edge rest reads sent writes) (edge rest reads sent' writes') (record { halt = Answering stop; closing = closing })
+unopened rest sent sent' reads writes writes' stop closing did later rose = record {
+  halts = refl;
+  untaken = refl;
+  unread = refl;
+  sent = did;
+  causes = record { read_later = omega arith; write_later = later; read = λ no. absurd no; write = rose };
 }

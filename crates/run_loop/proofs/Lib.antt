@@ -2,3 +2,5 @@ pub mod Going
 pub mod Ending
 pub mod Mapping
 pub mod StopRecord
+pub mod Breaking
+pub mod Stopping

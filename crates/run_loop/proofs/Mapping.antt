@@ -19,7 +19,7 @@ reason_map : (walk walk' : Walk) (stops stops' : Stopping) (rest0 rest : Option 
     → ((fs : List (List ℕ)) (text f : List ℕ) (stop : PartStop) → stops fs text f stop → stops' fs text f stop)
     → Reason walk stops rest0 rest fs text halt → Reason walk' stops' rest0 rest fs text halt
 reason_map walk walk' stops stops' rest0 rest fs text (Reading stop) weaker weaker' r = (weaker fs text r.0, r.1)
-reason_map walk walk' stops stops' rest0 rest fs text (Answering stop) weaker weaker' r = (r.0, weaker' fs text r.0 stop r.1, r.2)
+reason_map walk walk' stops stops' rest0 rest fs text (Answering stop) weaker weaker' r = (r.0, weaker' fs text r.0 stop r.1, r.2, r.3)
 reason_map walk walk' stops stops' rest0 rest fs text Sending weaker weaker' r = (weaker fs text r.0, r.1)
 
 pub ended_map : (walk walk' : Walk) (stops stops' : Stopping) (old new : Edge) (end : RunEnd)

@@ -1,4 +1,5 @@
--- What a part says of itself, and what it does with a frame.
+-- What a part says of itself and of the outside that it is lent, and what it does with a frame. Here a part is told
+-- together with its outside.
 use Rattle.std.specs.Prelude.{◌≡◌, ℕ, ◌<◌, ◌^◌, List, [], ◌∷◌, ◌++◌, length, Result, Ok, Err}
 use Rattle.iot_bytes.specs.Frames.{frame}
 use Rattle.run_loop.specs.declared.halt.PartStop.{PartStop}

@@ -1,8 +1,9 @@
 -- A run over frames, and how it ends.
-use Rattle.std.specs.Prelude.{◌≡◌, ℕ, ◌+◌, ◌≤◌, ◌⊎◌, List, length, Option, Some, Result, Ok, Err}
+use Rattle.std.specs.Prelude.{◌≡◌, ℕ, ◌+◌, ◌<◌, ◌≤◌, ◌⊎◌, List, length, Option, Some, Result, Ok, Err}
 use Rattle.es10_codec.specs.Spelling.{stopped}
 use Rattle.run_loop.specs.declared.reading.TheConstants.{MOST_FRAMES}
 use Rattle.run_loop.specs.declared.halt.ReadStop.TheVariants as reading
+use Rattle.run_loop.specs.declared.halt.PartStop.{PartStop}
 use Rattle.run_loop.specs.declared.halt.SendStop.{SendStop}
 use Rattle.run_loop.specs.declared.halt.SendStop.TheVariants as sending
 use Rattle.run_loop.specs.declared.halt.Halt.{Halt}
@@ -11,8 +12,8 @@ use Rattle.run_loop.specs.declared.halt.RunEnd.{RunEnd}
 use Rattle.run_loop.specs.Edges.{Edge, HasCauses}
 use Rattle.run_loop.specs.Frames.{IsTaken, NoFrame, HasTaken}
 use Rattle.run_loop.specs.Parts.{Walk, Stopping}
-use Rattle.run_loop.specs.Sends.{HasSent, IsCutShort, Closed}
-use Rattle.run_loop.specs.Status.{halt_status, has_record}
+use Rattle.run_loop.specs.Sends.{HasSent, IsCutShort, Closes, Closed}
+use Rattle.run_loop.specs.Status.{part_status, halt_status, has_record}
 
 -- These frames were answered, with this text, and the next frame is due.
 pub record Progress (behind : Walk) (old now : Edge) (count : ℕ) : Type 0 where
@@ -25,10 +26,10 @@ pub record Progress (behind : Walk) (old now : Edge) (count : ℕ) : Type 0 wher
   pub causes : HasCauses old now ⊥ ⊥
 
 -- Why no more than these frames were answered, and what was taken of the octets that follow them: nothing is
--- taken from behind the frame in hand.
+-- taken from behind the frame in hand. A frame past the limit on the count isn't handed to the part.
 abbrev pub Reason : Walk → Stopping → Option (List ℕ) → Option (List ℕ) → List (List ℕ) → List ℕ → Halt → Type 0
 Reason behind stops rest0 rest fs text (Reading stop) = behind fs text × HasTaken rest0 fs (λ tail. NoFrame (length fs) tail rest stop)
-Reason behind stops rest0 rest fs text (Answering stop) = (f : List ℕ) × stops fs text f stop × HasTaken rest0 fs (λ tail. IsTaken f tail rest)
+Reason behind stops rest0 rest fs text (Answering stop) = (f : List ℕ) × stops fs text f stop × HasTaken rest0 fs (λ tail. IsTaken f tail rest) × (length fs < MOST_FRAMES)
 Reason behind stops rest0 rest fs text Sending = behind fs text × HasTaken rest0 fs (λ tail. rest ≡ Some tail)
 
 -- The stop record with this status behind so many frames: its number is that of the next frame, from 1.
@@ -80,3 +81,13 @@ pub record Ended (behind : Walk) (stops : Stopping) (old new : Edge) (end : RunE
   pub sent : SentFor old.sent new.sent frames text end.halt end.closing
   -- a fault comes only where a call failed
   pub causes : HasCauses old new (end.halt ≡ Reading reading.Fault) ((end.halt ≡ Sending) ⊎ (end.closing ≡ Err sending.Fault))
+
+-- The run ended before a frame was read: what its part works on couldn't be opened, for this reason. Nothing was
+-- taken, and the number of the stop record, where one is due, is 0.
+pub record IsUnopened (stop : PartStop) (old new : Edge) (end : RunEnd) : Type 0 where
+  pub halts : end.halt ≡ Answering stop
+  pub untaken : new.rest ≡ old.rest
+  pub unread : new.read_faults ≡ old.read_faults
+  pub sent : Closes (has_record (Answering stop)) old.sent new.sent (stopped (part_status stop) 0) end.closing
+  -- a fault of the sink comes only where a call failed
+  pub causes : HasCauses old new ⊥ (end.closing ≡ Err sending.Fault)

@@ -1,9 +1,9 @@
 //! The loop: a frame is read, answered and sent before the next one is read.
 
-ghost use Rattle.std.specs.Prelude.{◌≡◌, ℕ, ◌<◌, ◌≤◌, Err, IfOk, IfErr};
+ghost use Rattle.std.specs.Prelude.{◌≡◌, ℕ, ◌<◌, ◌≤◌, List, Option, Err, IfOk, IfErr};
 ghost use Rattle.run_loop.specs.Edges.{Edge, edge};
 ghost use Rattle.run_loop.specs.Parts.{Replies};
-ghost use Rattle.run_loop.specs.Runs.{Progress, Turned, Halted, Ended};
+ghost use Rattle.run_loop.specs.Runs.{Progress, Turned, Halted, Ended, IsUnopened};
 ghost use Rattle.run_loop.specs.Sends.{Closes};
 ghost use Rattle.run_loop.specs.Status.{halt_status, has_record};
 ghost use Rattle.es10_codec.specs.Spelling.{stopped};
@@ -38,56 +38,62 @@ fn empty_answer(alloc: Global) -> Result<Row<u8>, ReadStop>
 }
 
 // The frame of the part's answer, in the row that has the place of its length.
-fn reply<P: Part>(
+fn reply<W, P: Part<W>>(
     alloc: Global,
     part: &mut P,
+    outside: &mut W,
     octets: &[u8],
     out: &mut Row<u8>,
 ) -> Result<(), PartStop>
     requires { out.old ≡ blank_head }
-    ensures { Replies P.behind P.stops part.old part.new octets.now out.new result }
+    ensures { Replies P.behind P.stops (part.old, outside.old) (part.new, outside.new)
+        octets.now out.new result }
 {
-    part.answer(alloc, octets, out)?;
+    part.answer(alloc, outside, octets, out)?;
     end_frame(out);
     Ok(())
 }
 
 // Reads a frame, has it answered and sends the answer.
-fn turn<P: Part, S: Source, K: Sink>(
+fn turn<W, P: Part<W>, S: Source, K: Sink>(
     alloc: Global,
     part: &mut P,
+    outside: &mut W,
     source: &mut S,
     sink: &mut K,
 ) -> Result<(), Halt>
-    ensures { (first : P) (start : Edge) (count : ℕ) → count < MOST_FRAMES
-        → Progress (P.behind first part.old) start
+    ensures { (first : P × W) (start : Edge) (count : ℕ) → count < MOST_FRAMES
+        → Progress (P.behind first (part.old, outside.old)) start
         (edge (S.rest source.old) (S.faults source.old) (K.sent sink.old) (K.faults sink.old))
         count
-        → Turned (P.behind first part.new) (P.stops first part.new) start
+        → Turned (P.behind first (part.new, outside.new)) (P.stops first (part.new, outside.new))
+        start
         (edge (S.rest source.new) (S.faults source.new) (K.sent sink.new) (K.faults sink.new))
         count result }
 {
     let mut out = empty_answer(alloc)?;
     let frame = next_frame(alloc, source)?;
-    reply(alloc, part, frame.as_slice(), &mut out)?;
+    reply(alloc, part, outside, frame.as_slice(), &mut out)?;
     send_frame(out.as_slice(), sink)?;
     Ok(())
 }
 
 // Answers the frames, until something ends the run.
-fn handle<P: Part, S: Source, K: Sink>(
+fn handle<W, P: Part<W>, S: Source, K: Sink>(
     alloc: Global,
     part: &mut P,
+    outside: &mut W,
     source: &mut S,
     sink: &mut K,
 ) -> Last
-    ensures { Halted (P.behind part.old part.new) (P.stops part.old part.new)
+    ensures { Halted (P.behind (part.old, outside.old) (part.new, outside.new))
+        (P.stops (part.old, outside.old) (part.new, outside.new))
         (edge (S.rest source.old) (S.faults source.old) (K.sent sink.old) (K.faults sink.old))
         (edge (S.rest source.new) (S.faults source.new) (K.sent sink.new) (K.faults sink.new))
         result.number result.halt }
 {
     for handled in 0..MOST_FRAMES {
-        match turn(alloc, part, source, sink) {
+        match turn(alloc, part, outside, source, sink) {
             Ok(()) => {}
             Err(halt) => {
                 let number = u64::from(handled) + 1;
@@ -117,21 +123,36 @@ fn close<K: Sink>(alloc: Global, last: Last, sink: &mut K) -> Result<(), SendSto
 }
 
 /// Has the frames of a source answered, until something ends the run, and writes the stop record.
-pub fn serve<P: Part, S: Source, K: Sink>(
+/// The part is lent the outside for each frame.
+pub fn serve<W, P: Part<W>, S: Source, K: Sink>(
     alloc: Global,
     part: &mut P,
+    outside: &mut W,
     source: &mut S,
     sink: &mut K,
 ) -> RunEnd
-    ensures { Ended (P.behind part.old part.new) (P.stops part.old part.new)
+    ensures { Ended (P.behind (part.old, outside.old) (part.new, outside.new))
+        (P.stops (part.old, outside.old) (part.new, outside.new))
         (edge (S.rest source.old) (S.faults source.old) (K.sent sink.old) (K.faults sink.old))
         (edge (S.rest source.new) (S.faults source.new) (K.sent sink.new) (K.faults sink.new))
         result }
 {
-    let last = handle(alloc, part, source, sink);
+    let last = handle(alloc, part, outside, source, sink);
     let closing = close(alloc, last, sink);
     RunEnd {
         halt: last.halt,
         closing,
     }
+}
+
+/// Ends a run of which no frame was read, since what its part works on couldn't be opened. The
+/// number of the stop record is 0.
+pub fn end_unopened<K: Sink>(alloc: Global, stop: PartStop, sink: &mut K) -> RunEnd
+    ensures { (rest : Option (List ℕ)) (reads : ℕ)
+        → IsUnopened stop (edge rest reads (K.sent sink.old) (K.faults sink.old))
+        (edge rest reads (K.sent sink.new) (K.faults sink.new)) result }
+{
+    let halt = Halt::Answering(stop);
+    let closing = close(alloc, Last { halt, number: 0 }, sink);
+    RunEnd { halt, closing }
 }

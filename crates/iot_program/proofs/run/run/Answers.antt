@@ -1,7 +1,7 @@
 use Rattle.std.proofs.Common.{◌≡◌, ◌∙◌, sym, subst}
 use Rattle.sgp_fields.proofs.Steps.{some_is}
 use Rattle.iot_program.specs.declared.words.Form.{Form}
-use Rattle.iot_program.specs.Ends.{HandledBy}
+use Rattle.iot_program.specs.Ends.{HandledBy, StopsBy}
 use Rattle.iot_program.proofs.Serving.{does_words}
 use Rattle.iot_program.proofs.run.run.Goals as goal
 
@@ -14,5 +14,6 @@ returns-in-Some-clause-complete g c = λ form input fs words told is handled no_
     c.run_form.ensures.complete input fs told is (subst (λ (f : Form). HandledBy f fs) same handled) no_read no_write
 
 pub returns-in-Some-clause-stops : goal.returns-in-Some-clause-stops
-returns-in-Some-clause-stops g c = λ input fs tail words.
-    c.run_form.ensures.stops input fs tail (some_is _ _ (sym (sym words ∙ sym c.form_of_words.ensures ∙ c.in-Some.is)))
+returns-in-Some-clause-stops g c = λ form input fs tail words told is handled no_read no_write.
+    let same : form ≡ c.in-Some.form = some_is _ _ (sym words ∙ sym c.form_of_words.ensures ∙ c.in-Some.is) in
+    subst (λ (f : Form). StopsBy f fs tail c.run_form.result) (sym same) (c.run_form.ensures.stops input fs tail told is (subst (λ (f : Form). HandledBy f fs) same handled) no_read no_write)

@@ -6,7 +6,7 @@ use Rattle.run_loop.specs.Status.{exit_status}
 use Rattle.ipa_core.specs.Assistants.{IsIpa}
 use Rattle.lone_parts.specs.Ipas.{Alone, ipa_rule, LedTo, StoppedAt}
 use Rattle.lone_parts.specs.Runs.{Ran}
-use Rattle.lone_parts.proofs.Ending.{ran, has_causes, complete, not_one}
+use Rattle.lone_parts.proofs.Ending.{ran, has_causes, complete, stops, not_one}
 use Rattle.lone_parts.proofs.runs.run_ipa.Goals as goal
 
 -- a run of an assistant to which nothing had happened
@@ -27,3 +27,7 @@ returns-clause-causes g c = has_causes (ipa_rule c.args.eid) [] c.status.result 
 pub returns-clause-complete : goal.returns-clause-complete
 returns-clause-complete g c = λ input fs told is handled no_read no_write.
     complete (ipa_rule c.args.eid) [] c.status.result _ _ input fs (ran_alone c.new-part.result c.serve.new.part c.args.eid c.status.result _ _ c.serve.result c.new-part.ensures.ipa c.new-part.ensures.eid c.status.ensures c.serve.ensures) told is handled no_read no_write
+
+pub returns-clause-stops : goal.returns-clause-stops
+returns-clause-stops g c = λ input fs tail told is handled no_read no_write.
+    stops (ipa_rule c.args.eid) [] c.status.result _ _ input fs tail (ran_alone c.new-part.result c.serve.new.part c.args.eid c.status.result _ _ c.serve.result c.new-part.ensures.ipa c.new-part.ensures.eid c.status.ensures c.serve.ensures) told is handled no_read no_write

@@ -4,13 +4,13 @@ use Rattle.run_loop.proofs.Ending.{at_first, read_no_more}
 use Rattle.run_loop.proofs.serving.handle.Goals as goal
 
 pub loop-handled-init : goal.loop-handled-init
-loop-handled-init g c = at_first _ _ (g.met.P.Part.begins c.args.part.now)
+loop-handled-init g c = at_first _ _ (g.met.P.Part.begins (c.args.part.now, c.args.outside.now))
 
 pub loop-handled-preserved : goal.loop-handled-preserved
-loop-handled-preserved g c = c.in-Ok.ensures c.args.part.now _ c.loop-handled.handled (omega arith) c.loop-handled.invariant
+loop-handled-preserved g c = c.in-Ok.ensures (c.args.part.now, c.args.outside.now) _ c.loop-handled.handled (omega arith) c.loop-handled.invariant
 
 pub returns-in-Err : goal.returns-in-Err
-returns-in-Err g c = rw c.from-number.ensures (c.in-Err.ensures c.args.part.now _ c.loop-handled.handled (omega arith) c.loop-handled.invariant)
+returns-in-Err g c = rw c.from-number.ensures (c.in-Err.ensures (c.args.part.now, c.args.outside.now) _ c.loop-handled.handled (omega arith) c.loop-handled.invariant)
 
 pub returns : goal.returns
 returns g c =

@@ -20,7 +20,7 @@ pub returns-in_err-reply : goal.returns-in_err-reply
 returns-in_err-reply g c = λ first start count few p.
     let e = err_from_is_err_and c.from_residual-in_err-reply.result c.from_residual-in_err-reply.ensures.1 in
     let read = c.in_ok-frame.ensures in
-    rw (e.1, e.2) (answer_no_more _ _ _ _ _ _ count c.in_ok-frame.frame c.in_err-reply.field-0.0 (omega (arith, few)) p ((rw c.as_slice.ensures at c.in_err-reply.ensures) first) (read.next count) refl read.monotone (omega arith))
+    rw (e.1, e.2) (answer_no_more _ _ _ _ _ _ count c.in_ok-frame.frame c.in_err-reply.field-0.0 few p ((rw c.as_slice.ensures at c.in_err-reply.ensures) first) (read.next count) refl read.monotone (omega arith))
 
 pub returns-in_err-send_frame : goal.returns-in_err-send_frame
 returns-in_err-send_frame g c = λ first start count few p.

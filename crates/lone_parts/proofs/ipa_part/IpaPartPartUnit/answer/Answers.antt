@@ -3,7 +3,7 @@ use Rattle.part_records.specs.Spelling.{deeds}
 use Rattle.part_records.proofs.Outputs.{deeds_few}
 use Rattle.lone_parts.specs.Ipas.{Alone, alone, LedTo}
 use Rattle.lone_parts.proofs.IpaSteps.{answered, stopped}
-use Rattle.lone_parts.proofs.ipa_part.IpaPartPart.answer.Goals as goal
+use Rattle.lone_parts.proofs.ipa_part.IpaPartPartUnit.answer.Goals as goal
 
 pub returns-in-Ok-write_deeds : goal.returns-in-Ok-write_deeds
 returns-in-Ok-write_deeds c = record {
@@ -11,11 +11,11 @@ returns-in-Ok-write_deeds c = record {
   appended = c.in-Ok-write_deeds.ensures.ok;
   short = omega (arith, deeds_few c.in-Ok.deeds c.in-Ok.ensures.range);
   stands = λ first fs text led.
-      answered first (alone c.self.inside) (record { ipa = c.reply.new.ipa; eid = c.self.inside.eid }) c.args.octets.now (deeds c.in-Ok.deeds) refl c.in-Ok.ensures.replied fs text
-      (subst (λ (a : Alone). LedTo first a fs text) (sym c.self.view_is) led);
+      answered first.0 (alone c.self.inside) (record { ipa = c.reply.new.ipa; eid = c.self.inside.eid }) c.args.octets.now (deeds c.in-Ok.deeds) refl c.in-Ok.ensures.replied fs text
+      (subst (λ (a : Alone). LedTo first.0 a fs text) (sym c.self.view_is) led);
 }
 
 pub returns : goal.returns
 returns c = λ first fs text led.
-    stopped first (alone c.self.inside) c.args.octets.now c.in-Err.stop c.reply.new.ipa c.in-Err.ensures.replied fs text
-    (subst (λ (a : Alone). LedTo first a fs text) (sym c.self.view_is) led)
+    stopped first.0 (alone c.self.inside) c.args.octets.now c.in-Err.stop c.reply.new.ipa c.in-Err.ensures.replied fs text
+    (subst (λ (a : Alone). LedTo first.0 a fs text) (sym c.self.view_is) led)
