@@ -1,3 +1,4 @@
 pub mod EimInputs
 pub mod IpaInputs
 pub mod Outputs
+pub mod OutputLaws

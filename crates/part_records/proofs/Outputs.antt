@@ -20,7 +20,7 @@ use Rattle.part_records.specs.declared.records.EimRefusal.TheVariants as refusal
 use Rattle.part_records.specs.declared.records.Deeds.{Deeds}
 use Rattle.part_records.specs.declared.records.Deeds.TheVariants as deed
 
-code_few : (why : EimRefusal) → refusal_code why ≤ 4
+pub code_few : (why : EimRefusal) → refusal_code why ≤ 4
 code_few refusal.Unbound = omega arith
 code_few refusal.CounterSpent = omega arith
 code_few refusal.BindLow = omega arith
@@ -48,7 +48,7 @@ post_few p h =
       to_eim_few p.message h.message,
     )
 
-content_few : (d : Deeds) → AreDeeds d → length (deeds_content d) ≤ 16777215
+pub content_few : (d : Deeds) → AreDeeds d → length (deeds_content d) ≤ 16777215
 unfolding deeds_content AreDeeds
 content_few (deed.ToCard c) h = omega (arith, element_few 0xa0 (command c), h.short)
 content_few (deed.ToEims posts) h = omega (arith, flat_few post IsPost 18461 post_few posts h.each, h.few)

@@ -1,5 +1,5 @@
 -- The ranges of what comes to managers and assistants, and of what they give.
-use Rattle.std.specs.Prelude.{ℕ, ◌≤◌, ◌<◌, ◌^◌, List, length}
+use Rattle.std.specs.Prelude.{◌≢◌, ℕ, ◌≤◌, ◌<◌, ◌^◌, List, [], length}
 use Rattle.sgp_values.specs.Ranges.{IsEimId}
 use Rattle.small_card.specs.Lists.{Every}
 use Rattle.small_card.specs.Ranges.{IsAnswer, IsBody, IsCommand, IsNumber, greatest_counter}
@@ -71,3 +71,8 @@ unfoldable pub AreDeeds : Deeds → Type 0
 AreDeeds (deeds.ToCard c) = IsToCard c
 AreDeeds (deeds.ToEims posts) = ArePosts posts
 AreDeeds deeds.Nothing = Unit {0}
+
+-- What is sent to nobody is said as nothing, and not by an empty list.
+pub record IsSaid (d : Deeds) : Type 0 where
+  pub range : AreDeeds d
+  pub some : d ≢ deeds.ToEims []

@@ -2,7 +2,7 @@
 
 ghost use Rattle.std.specs.Prelude.{◌≤◌, length};
 ghost use Rattle.sgp_fields.specs.Laws.{OneSpelling, ReadAgain, ReadsSpelled};
-ghost use Rattle.part_records.specs.Ranges.{AreDeeds, IsEimInput, IsEimOutput};
+ghost use Rattle.part_records.specs.Ranges.{AreDeeds, IsEimInput, IsEimOutput, IsSaid};
 ghost use Rattle.part_records.specs.Reading.{eim_input_at, ipa_input_at};
 ghost use Rattle.part_records.specs.Spelling.{deeds, eim_input, eim_output, ipa_input, IsFramable};
 ghost use Rattle.part_records.specs.declared.records.Deeds.{Deeds};
@@ -28,4 +28,11 @@ pub fn inputs_have_one_spelling()
 pub fn outputs_are_short()
     ensures eim { (x : EimOutput) → IsEimOutput x → length (eim_output x) ≤ 16777220 }
     ensures ipa { (x : Deeds) → AreDeeds x → length (deeds x) ≤ 16777220 }
+{}
+
+/// What a manager gives has one spelling, and no spelling is a proper prefix of another; the same of
+/// what an assistant does.
+pub fn outputs_have_one_spelling()
+    ensures eim { OneSpelling eim_output IsEimOutput }
+    ensures ipa { OneSpelling deeds IsSaid }
 {}

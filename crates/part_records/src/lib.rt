@@ -14,5 +14,7 @@ pub use deeds::{deeds_len, write_deeds};
 pub use eim_inputs::read_eim_input;
 pub use eim_outputs::{eim_output_len, write_eim_output};
 pub use ipa_inputs::read_ipa_input;
-pub use laws::{inputs_are_read_back, inputs_have_one_spelling, outputs_are_short};
+pub use laws::{
+    inputs_are_read_back, inputs_have_one_spelling, outputs_are_short, outputs_have_one_spelling,
+};
 pub use records::{Deeds, EimInput, EimOutput, EimRefusal, IpaInput};
