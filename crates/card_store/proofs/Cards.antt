@@ -14,6 +14,7 @@ use Rattle.home_codec.proofs.Whole.{one_card}
 use Rattle.card_store.specs.Standing.{Stands, StandsForEither, IsSettled}
 use Rattle.card_store.specs.Changed.{changed, count_changed}
 use Rattle.card_store.specs.Staging.{Plan, IsPlan, IsStagedOn, Rewrites, Commits, planned}
+use Rattle.card_store.specs.Slots.{HomesKeepSlots}
 
 -- images with one home stand for the same card
 pub stands_same : (f : FullCard) (i j : List ℕ) → home i ≡ home j → Stands f j → Stands f i
@@ -47,6 +48,7 @@ commits c p ok a b told plan settled staged r = record {
       (λ i e. ⊎_elim (λ old. inl (stands_same c i a.reads old settled.stands)) (λ new. inr (record { blocks = put_back p.blocks p.octets (home_in a.reads); there = new; fields = staged.makes; valid = plan.valid })) e));
   settled = λ done. idle_settled p.card b (r.idle done) (subst (λ (l : List ℕ). HasFields p.card l) (sym (r.home_now done)) staged.makes) plan.valid;
   home_now = r.home_now;
+  slots = λ done. subst (λ (l : List ℕ). HomesKeepSlots (home_in a.reads) l) (sym (r.home_now done)) staged.slots;
 }
 
 -- the same, over the octets as the code holds them
@@ -63,6 +65,7 @@ unwritten c p a told none plan settled staged =
       ran = ran_most (omega arith) (ran_none (StandsForEither c p.card) a told (λ i was. inl (stands_same c i a.reads (ap home (settled.alone i was)) settled.stands)));
       settled = λ done. idle_settled p.card a staged.idle (subst (λ (l : List ℕ). HasFields p.card l) same staged.makes) plan.valid;
       home_now = λ done. sym same;
+      slots = λ done. subst (λ (l : List ℕ). HomesKeepSlots (home_in a.reads) l) same staged.slots;
     }
 
 -- after a unit so many blocks read otherwise as it wrote

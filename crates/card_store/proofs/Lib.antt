@@ -7,5 +7,10 @@ pub mod Making
 pub mod Compared
 pub mod Fronts
 pub mod Seating
+pub mod Numbers
+pub mod Kept
+pub mod Keeping
+pub mod Gone
+pub mod Homes
 pub mod Readying
 pub mod Holding

@@ -1,16 +1,13 @@
 -- Seating one result after the other.
-use Rattle.std.proofs.Common.{◌≡◌, ℕ, zero, suc, ◌+◌, ◌<◌, Bool, true, false, List, [], ◌∷◌, ◌++◌, length, take, get_or, set, refl, sym, ◌∙◌, ap, subst, arith, length-append}
-use Rattle.std.specs.Prelude.{Option, Some, None, slice_get, nat_le, if◌then◌else◌}
-use Rattle.std.proofs.lemmas.Bool.Decides.{nat_tests}
+use Rattle.std.proofs.Common.{◌≡◌, ℕ, zero, suc, ◌+◌, ◌<◌, List, [], ◌∷◌, ◌++◌, length, take, get_or, set, refl, ◌∙◌, ap, subst, arith, length-append}
+use Rattle.std.specs.Prelude.{Option, Some, None, slice_get}
 use Rattle.std.proofs.lemmas.List.{take_more}
 use Rattle.std.proofs.lemmas.Option.{slice_get_within, get_or_from_slice_get, slice_get-get_or}
-use Rattle.std.proofs.Math.ListN.{length-set}
 use Rattle.small_card.specs.Lists.{Every, EveryPair}
 use Rattle.small_card.specs.Ranges.{IsBefore}
 use Rattle.small_card.specs.declared.types.PackageResult.{PackageResult}
-use Rattle.home_codec.specs.Ordering.{somes, insert, in_order_on, in_order}
-use Rattle.home_codec.proofs.Sorting.{in_order_every, every_in_order, insert_last}
-use Rattle.card_store.specs.Seats.{AreSeats, places_of, seated, seat_at}
+use Rattle.home_codec.specs.Ordering.{somes, insert, in_order_on}
+use Rattle.card_store.specs.Seats.{places_of, seated, seat_at}
 
 -- one more that is there, somewhere among the others
 pub record Split {X : Type 0} (old new : List X) (x : X) : Type 0 where
@@ -31,51 +28,16 @@ somes_set {X = X} (Some y ∷ xs) (suc s) x lt free =
 pub length-split : {X : Type 0} (old new : List X) (x : X) → Split old new x → length new ≡ length old + 1
 length-split old new x s = omega (arith, ap length s.old_is, ap length s.new_is, length-append s.before s.behind, length-append s.before (x ∷ s.behind))
 
-on_append : (rs xs ys : List PackageResult) → in_order_on rs (xs ++ ys) ≡ in_order_on (in_order_on rs xs) ys
+pub on_append : (rs xs ys : List PackageResult) → in_order_on rs (xs ++ ys) ≡ in_order_on (in_order_on rs xs) ys
 on_append rs [] ys = refl
 on_append rs (x ∷ xs) ys = on_append (insert x rs) xs ys
 
-insert_by : (b : Bool) (s t v : PackageResult) (ts : List PackageResult) → insert s (ts ++ v ∷ []) ≡ insert s ts ++ v ∷ []
-    → (if b then s ∷ t ∷ (ts ++ v ∷ []) else t ∷ insert s (ts ++ v ∷ [])) ≡ (if b then s ∷ t ∷ ts else t ∷ insert s ts) ++ v ∷ []
-insert_by true s t v ts e = refl
-insert_by false s t v ts e = ap (λ (l : List PackageResult). t ∷ l) e
-
-insert_before : (s v : PackageResult) (ts : List PackageResult) → IsBefore s v → insert s (ts ++ v ∷ []) ≡ insert s ts ++ v ∷ []
-insert_before s v [] lt = first (nat_le s.seq v.seq) (le_true s.seq v.seq lt)
-  where
-    le_true : (m n : ℕ) → m < n → nat_le m n ≡ true
-    le_true m n lt = grind (arith, nat_tests)
-
-    first : (b : Bool) → b ≡ true → (if b then s ∷ v ∷ [] else v ∷ s ∷ []) ≡ s ∷ v ∷ []
-    first true e = refl
-    first false e = absurd (cc e)
-insert_before s v (t ∷ ts) lt = insert_by (nat_le s.seq t.seq) s t v ts (insert_before s v ts lt)
-
-on_last : (rs : List PackageResult) (v : PackageResult) (ss : List PackageResult) → Every (λ s. IsBefore s v) ss → in_order_on (rs ++ v ∷ []) ss ≡ in_order_on rs ss ++ v ∷ []
-on_last rs v [] each = refl
-on_last rs v (s ∷ ss) each = ap (λ (l : List PackageResult). in_order_on l ss) (insert_before s v rs each.0) ∙ on_last (insert s rs) v ss each.1
-
-every_split : (P : PackageResult → Type 0) (xs ys : List PackageResult) → Every P (xs ++ ys) → Every P xs × Every P ys
-every_split P [] ys each = (tt, each)
-every_split P (x ∷ xs) ys each = let k = every_split P xs ys each.1 in ((each.0, k.0), k.1)
-
--- the last one by its number, wherever it stands
-in_order_more : (before behind : List PackageResult) (v : PackageResult) → Every (λ s. IsBefore s v) (in_order (before ++ behind)) → in_order (before ++ v ∷ behind) ≡ in_order (before ++ behind) ++ v ∷ []
-in_order_more before behind v each =
-    let first = in_order_on [] before in
-    let all = every_split (λ s. IsBefore s v) before behind (in_order_every (λ s. IsBefore s v) (before ++ behind) each) in
-    let front : Every (λ s. IsBefore s v) first = every_in_order (λ s. IsBefore s v) before all.0 in
-    on_append [] before (v ∷ behind)
-    ∙ ap (λ (l : List PackageResult). in_order_on l behind) (insert_last v first front)
-    ∙ on_last first v behind all.1
-    ∙ ap (λ (l : List PackageResult). l ++ v ∷ []) (sym (on_append [] before behind))
-
-map_set : (pending : List PackageResult) (seats : List (Option ℕ)) (s i : ℕ) (r : PackageResult) → slice_get pending i ≡ Some r → places_of pending (set seats s (Some i)) ≡ set (places_of pending seats) s (Some r)
+pub map_set : (pending : List PackageResult) (seats : List (Option ℕ)) (s i : ℕ) (r : PackageResult) → slice_get pending i ≡ Some r → places_of pending (set seats s (Some i)) ≡ set (places_of pending seats) s (Some r)
 map_set pending [] s i r is = refl
 map_set pending (x ∷ xs) zero i r is = ap (λ (p : Option PackageResult). p ∷ places_of pending xs) is
 map_set pending (x ∷ xs) (suc s) i r is = ap (λ (l : List (Option PackageResult)). seated pending x ∷ l) (map_set pending xs s i r is)
 
-seat_free : (pending : List PackageResult) (seats : List (Option ℕ)) (s : ℕ) → seat_at seats s ≡ None → get_or (places_of pending seats) s None ≡ None
+pub seat_free : (pending : List PackageResult) (seats : List (Option ℕ)) (s : ℕ) → seat_at seats s ≡ None → get_or (places_of pending seats) s None ≡ None
 seat_free pending [] s free = refl
 seat_free pending (x ∷ xs) zero free = ap (seated pending) free
 seat_free pending (x ∷ xs) (suc s) free = seat_free pending xs s free
@@ -89,7 +51,7 @@ every_get P [] i d lt each = absurd (omega arith)
 every_get P (x ∷ xs) zero d lt each = each.0
 every_get P (x ∷ xs) (suc i) d lt each = every_get P xs i d (omega arith) each.1
 
-below_next : (xs : List PackageResult) (i : ℕ) (r : PackageResult) → EveryPair IsBefore xs → slice_get xs i ≡ Some r → Every (λ s. IsBefore s r) (take i xs)
+pub below_next : (xs : List PackageResult) (i : ℕ) (r : PackageResult) → EveryPair IsBefore xs → slice_get xs i ≡ Some r → Every (λ s. IsBefore s r) (take i xs)
 below_next [] i r rising is = absurd (omega (arith, slice_get_within {A = PackageResult} [] i r is))
 below_next (x ∷ xs) zero r rising is = tt
 below_next (x ∷ xs) (suc i) r rising is =
@@ -97,24 +59,8 @@ below_next (x ∷ xs) (suc i) r rising is =
     let here : get_or xs i r ≡ r = get_or_from_slice_get (x ∷ xs) (suc i) r r is in
     (subst (λ (s : PackageResult). IsBefore x s) here (every_get (IsBefore x) xs i r (omega arith) rising.0), below_next xs i r rising.1 (slice_get-get_or xs i r (omega arith) ∙ ap (λ (s : PackageResult). Some s) here))
 
-take_next : (xs : List PackageResult) (i : ℕ) (r : PackageResult) → slice_get xs i ≡ Some r → take (i + 1) xs ≡ take i xs ++ r ∷ []
+pub take_next : (xs : List PackageResult) (i : ℕ) (r : PackageResult) → slice_get xs i ≡ Some r → take (i + 1) xs ≡ take i xs ++ r ∷ []
 take_next xs i r is = take_more xs i r (slice_get_within xs i r is) ∙ ap (λ (x : PackageResult). take i xs ++ x ∷ []) (get_or_from_slice_get xs i r r is)
-
--- one result more is seated
-pub seated_one : (pending : List PackageResult) (seats : List (Option ℕ)) (s i : ℕ) (r : PackageResult) → EveryPair IsBefore pending → slice_get pending i ≡ Some r → s < 8 → seat_at seats s ≡ None
-    → AreSeats pending (take i pending) seats → AreSeats pending (take (i + 1) pending) (set seats s (Some i))
-seated_one pending seats s i r rising is lt free h =
-    let split = somes_set (places_of pending seats) s r (omega (arith, length-places pending seats, h.all, lt)) (seat_free pending seats s free) in
-    let old : in_order (split.before ++ split.behind) ≡ take i pending = ap in_order (sym split.old_is) ∙ h.each in
-    let below : Every (λ t. IsBefore t r) (in_order (split.before ++ split.behind)) = subst (λ (l : List PackageResult). Every (λ t. IsBefore t r) l) (sym old) (below_next pending i r rising is) in
-    record {
-      all = length-set seats s (Some i) ∙ h.all;
-      each = ap (λ (l : List (Option PackageResult)). in_order (somes l)) (map_set pending seats s i r is)
-          ∙ ap in_order split.new_is
-          ∙ in_order_more split.before split.behind r below
-          ∙ ap (λ (l : List PackageResult). l ++ r ∷ []) old
-          ∙ sym (take_next pending i r is);
-    }
 
 -- what stands in a slot is the result of its seat
 pub place_at : (pending : List PackageResult) (seats : List (Option ℕ)) (s : ℕ) → get_or (places_of pending seats) s None ≡ seated pending (seat_at seats s)

@@ -13,6 +13,7 @@ use Rattle.card_store.specs.declared.ends.StageError.TheVariants as stage
 use Rattle.card_store.specs.declared.changes.Changes.{Changes}
 use Rattle.card_store.specs.Changed.{changed}
 use Rattle.card_store.specs.Looking.{Looks}
+use Rattle.card_store.specs.Slots.{HomesKeepSlots}
 
 -- block numbers from this one on, which rise, and are below that one
 abbrev pub Between : ℕ → List ℕ → ℕ → Type 0
@@ -67,6 +68,10 @@ pub record Fronted (f : FullCard) (places : List (Option PackageResult)) (n : �
   pub home : List ℕ
   pub compared : IsCompared c (25 + 81 * n) old home
   pub front : HasFront f places n home
+
+-- results keep their slots in the home that the changes make
+abbrev pub KeepsAll : Changes → List ℕ → Type 0
+KeepsAll c old = HomesKeepSlots old (put_back c.blocks c.octets old)
 
 -- the changes make the home of the card, and their blocks are those that change
 pub record IsFound (f : FullCard) (c : Changes) (old : List ℕ) : Type 0 where

@@ -6,5 +6,6 @@ pub mod Loading
 pub mod Formatting
 pub mod Staging
 pub mod Planned
+pub mod Slots
 pub mod Comparing
 pub mod Seats

@@ -14,6 +14,7 @@ use Rattle.card_store.specs.declared.ends.StageError.TheVariants as stage
 use Rattle.card_store.specs.Standing.{StandsForEither, IsSettled}
 use Rattle.card_store.specs.Changed.{changed}
 use Rattle.card_store.specs.Looking.{Looks}
+use Rattle.card_store.specs.Slots.{HomesKeepSlots}
 
 -- the blocks to be written, their octets one block after the other, and the card that they make
 pub record Plan : Type 0 where
@@ -32,11 +33,12 @@ pub record IsPlan (p : Plan) : Type 0 where
 abbrev pub planned : Plan → List ℕ → List ℕ
 planned p before = put_back p.blocks p.octets before
 
--- the chip is idle, the plan makes its card of the home, and its blocks are those that change
+-- the chip is idle, the plan makes its card of the home, its blocks are those that change, and results keep their slots
 pub record IsStagedOn (p : Plan) (s : Seen) : Type 0 where
   pub idle : IsIdle s
   pub makes : HasFields p.card (planned p (home_in s.reads))
   pub each : p.blocks ≡ changed (home_in s.reads) (planned p (home_in s.reads))
+  pub slots : HomesKeepSlots (home_in s.reads) (planned p (home_in s.reads))
 
 -- the spare calls and octets of a unit, with one call left for the answer
 pub record HasRoom (p : Plan) (s : Seen) : Type 0 where
@@ -61,11 +63,12 @@ pub record Rewrites (blocks octets : List ℕ) (ok : Bool) (old new : Seen) : Ty
   pub idle : ok ≡ true → IsIdle new
   pub home_now : ok ≡ true → home_in new.reads ≡ put_back blocks octets (home_in old.reads)
 
--- a unit: whatever a cut leaves at any moment stands for the old card or the new one; after a success the chip is settled on the new, with the blocks of the plan in its home
+-- a unit: whatever a cut leaves at any moment stands for the old card or the new one; after a success the chip is settled on the new, with the blocks of the plan in its home, where results kept their slots
 pub record Commits (c : FullCard) (p : Plan) (ok : Bool) (old new : Seen) : Type 0 where
   pub ran : Ran 4000 ok (StandsForEither c p.card) old new
   pub settled : ok ≡ true → IsSettled p.card new
   pub home_now : ok ≡ true → home_in new.reads ≡ planned p (home_in old.reads)
+  pub slots : ok ≡ true → HomesKeepSlots (home_in old.reads) (home_in new.reads)
 
 -- room was made, and nothing else changed
 abbrev pub Readies : Result Plan StageError → Seen → Seen → Type 0

@@ -4,7 +4,7 @@ ghost use Rattle.std.specs.Prelude.{◌≡◌, ◌≤◌, ◌+◌, ◌*◌, ◌<
 ghost use Rattle.std.specs.Prelude.{length, OnOk, IfOk, IfSome};
 ghost use Rattle.std.specs.Option.{option_copied};
 ghost use Rattle.chip_port.specs.Rules.{IfTold, Takes};
-ghost use Rattle.undo_journal.specs.Home.{home_in};
+ghost use Rattle.undo_journal.specs.Home.{home_in, put_back};
 ghost use Rattle.small_card.specs.Cards.{FullCard};
 ghost use Rattle.small_card.specs.Lists.{Every};
 ghost use Rattle.small_card.specs.Ranges.{IsResult};
@@ -13,6 +13,7 @@ ghost use Rattle.small_card.specs.declared.types.PackageResult.{PackageResult as
 ghost use Rattle.home_codec.specs.FullCards.{full_card};
 ghost use Rattle.card_store.specs.Looking.{HasCauseOf};
 ghost use Rattle.card_store.specs.Seats.{AreSeats, seated as seat_result, places_of};
+ghost use Rattle.card_store.specs.Slots.{StandIn};
 ghost use Rattle.card_store.specs.Comparing.{Tries, Lists, IsListed, Fronted, IsFound, place_in};
 
 use crate::changes::{Changes, compare};
@@ -135,6 +136,9 @@ pub(crate) fn find<C: Chip>(
     ensures listed { IfOk result (λ changes. IsListed changes 673) }
     ensures told { IfOk result (λ changes. IfTold (C.sees chip.old)
         (IsFound (full_card new.now) changes (home_in (C.sees chip.old).reads))) }
+    ensures placed { IfOk result (λ changes. IfTold (C.sees chip.old)
+        (StandIn (places_of (full_card new.now).card.results.pending seats.now)
+        (put_back changes.blocks changes.octets (home_in (C.sees chip.old).reads)))) }
 {
     let mut changes = Changes::none(alloc);
     match compare_fields(alloc, chip, &mut changes, new) {

@@ -9,7 +9,7 @@ ghost use Rattle.small_card.specs.Valid.{IsValid};
 ghost use Rattle.home_codec.specs.FullCards.{full_card};
 ghost use Rattle.card_store.specs.Changed.{count_changed};
 ghost use Rattle.card_store.specs.Standing.{IsSettled};
-ghost use Rattle.card_store.specs.Comparing.{IsListed, IsFound, Tries};
+ghost use Rattle.card_store.specs.Comparing.{IsListed, IsFound, KeepsAll, Tries};
 ghost use Rattle.card_store.specs.Looking.{HasCauseOf};
 ghost use Rattle.card_store.specs.Staging.{IsStagedOn, HasRoom, Stages, Commits, Readies};
 
@@ -54,6 +54,9 @@ fn changes_to<C: Chip>(alloc: Global, chip: &mut C, new: &Card) -> Result<Change
     ensures listed { IfOk result (λ changes. IsListed changes 673) }
     ensures told { IfOk result (λ changes. IfTold (C.sees chip.old)
         (IsFound (full_card new.now) changes (home_in (C.sees chip.old).reads))) }
+    ensures slots { IfOk result (λ changes. IfTold (C.sees chip.old)
+        ((c : FullCard) → IsSettled c (C.sees chip.old)
+        → KeepsAll changes (home_in (C.sees chip.old).reads))) }
 {
     match read_numbers(chip) {
         Ok(numbers) => find(alloc, chip, new, &arrange(&numbers, new.store.rows())),
@@ -97,8 +100,7 @@ fn ready<C: Chip>(chip: &mut C, changes: Changes, card: Card) -> Result<Staged, 
 /// the blocks that the new results take.
 ///
 /// A pending result keeps its slot. Where one result is gone and one came, this one takes its slot;
-/// each other new result takes the lowest free slot. No clause says which slot a result takes: the
-/// contract says that each stands in exactly one.
+/// each other new result takes the lowest free slot.
 pub fn stage<C: Chip>(
     alloc: Global,
     chip: &mut C,

@@ -8,7 +8,7 @@ pub returns-in-Ok-clause-told : goal.returns-in-Ok-clause-told
 returns-in-Ok-clause-told g c = λ told.
     let looks = c.in-Ok.ensures.tries told in
     let r = c.ready.ensures in
-    found_ready c.ready.result (full_card c.args.old.now) (full_card c.args.new) c.in-Ok.changes _ _ _ (c.requires.settled told) looks (c.in-Ok.ensures.told told) (r.told looks.told) r.blocks r.octets r.card
+    found_ready c.ready.result (full_card c.args.old.now) (full_card c.args.new) c.in-Ok.changes _ _ _ (c.requires.settled told) looks (c.in-Ok.ensures.told told) (c.in-Ok.ensures.slots told (full_card c.args.old.now) (c.requires.settled told)) (r.told looks.told) r.blocks r.octets r.card
 
 pub returns-in-Ok-clause-staged : goal.returns-in-Ok-clause-staged
 returns-in-Ok-clause-staged g c =
@@ -18,7 +18,7 @@ returns-in-Ok-clause-staged g c =
     let told1 = sym r.cause.told ∙ told in
     let told0 = sym c.in-Ok.ensures.cause.told ∙ told1 in
     let looks = c.in-Ok.ensures.tries told0 in
-    found_ready c.ready.result (full_card c.args.old.now) (full_card c.args.new) c.in-Ok.changes _ _ _ (c.requires.settled told0) looks (c.in-Ok.ensures.told told0) (r.told told1) r.blocks r.octets r.card)
+    found_ready c.ready.result (full_card c.args.old.now) (full_card c.args.new) c.in-Ok.changes _ _ _ (c.requires.settled told0) looks (c.in-Ok.ensures.told told0) (c.in-Ok.ensures.slots told0 (full_card c.args.old.now) (c.requires.settled told0)) (r.told told1) r.blocks r.octets r.card)
 
 pub returns-in-Err-clause-told : goal.returns-in-Err-clause-told
 returns-in-Err-clause-told g c = λ told. not_found Changes c.in-Err.error (full_card c.args.old.now) _ _ (c.requires.settled told) (c.in-Err.ensures.tries told)
