@@ -15,3 +15,7 @@ pub mod Taking
 pub mod Choosing
 pub mod Redelivering
 pub mod Staying
+mod Computing
+mod Playing
+pub mod Leaving
+pub mod Losing

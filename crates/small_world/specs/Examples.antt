@@ -1,5 +1,6 @@
 -- Lines, devices and runs of the worked examples.
-use Rattle.std.specs.Prelude.{ℕ, true, false, List, [], ◌∷◌, None}
+use Rattle.std.specs.Prelude.{ℕ, true, false, List, [], ◌∷◌, ◌++◌, None, codes}
+use Rattle.chip_port.specs.declared.chip.Tear.TheVariants as tear
 use Rattle.small_card.specs.Examples.{home, home_on, all_off, card_eid, e1}
 use Rattle.small_card.specs.declared.types.Body.{Body}
 use Rattle.small_card.specs.declared.types.Body.TheVariants.{Psmos}
@@ -10,7 +11,7 @@ use Rattle.iot_schedule.specs.declared.types.Line.{Line}
 use Rattle.iot_schedule.specs.declared.types.Line.TheVariants as line
 use Rattle.iot_schedule.specs.declared.types.Pick.TheVariants.{At}
 use Rattle.small_world.specs.Printing.{printed}
-use Rattle.small_world.specs.Runs.{Turn, after_turn}
+use Rattle.small_world.specs.Runs.{Turn, MayTurn, after_turn}
 use Rattle.small_world.specs.Worlds.{SmallWorld, start_world}
 
 -- Three profiles, of which none is enabled.
@@ -59,6 +60,36 @@ unfoldable pub left_by : SmallWorld → List Turn → SmallWorld
 left_by w [] = w
 left_by w (t ∷ ts) = left_by (after_turn w t) ts
 
--- A run begins at a device with these modems.
-abbrev pub trace : Device → List Seen → List Turn → List (List ℕ)
-trace d modems ts = played (start_world d modems) ts
+-- Each of these turns is one that its line leaves, the first of them first.
+unfoldable pub MayPlay : SmallWorld → List Turn → Type 0
+MayPlay w [] = Unit {0}
+MayPlay w (t ∷ ts) = MayTurn w t × MayPlay (after_turn w t) ts
+
+-- The world of a device with these modems, behind the set-up.
+abbrev pub ready : Device → List Seen → SmallWorld
+ready d modems = left_by (start_world d modems) set_up
+
+-- The texts behind the set-up.
+abbrev pub texts_of : Device → List Seen → List Turn → List (List ℕ)
+texts_of d modems ts = played (ready d modems) ts
+
+-- The turns are ones that their lines leave, behind the set-up.
+abbrev pub MayBe : Device → List Seen → List Turn → Type 0
+MayBe d modems ts = MayPlay (ready d modems) ts
+
+-- The messages of these numbers reach their eIMs, or the assistant with a good verdict.
+abbrev pub goes_up : ℕ → Turn
+goes_up n = kept_on (line.Up (At n))
+
+abbrev pub goes_down : ℕ → Turn
+goes_down n = kept_on (line.Down (At n) true)
+
+-- Every unsynced octet is torn before the first call: the load is lost, and the card is dark.
+abbrev pub torn_load : List Turn
+torn_load =
+    ordered_down enable_home
+    ++ kept_on (line.Cut 0 tear.Junk) ∷ lost_on (line.Down (At 0) true) ∷ goes_down 0 ∷ kept_on line.Show ∷ []
+
+-- The texts of a load that is lost, up to the boot.
+abbrev pub torn_texts : List (List ℕ)
+torn_texts = codes "ordered 1" ∷ codes "sent 0" ∷ codes "reply 0 package" ∷ codes "planned" ∷ codes "lost" ∷ codes "off" ∷ codes "off" ∷ []

@@ -1,7 +1,7 @@
 //! What holds of every run, as functions that do nothing: the clauses are the laws. A run begins at
 //! the world of a device that was personalised, its lines are ones that can be read, and nothing is
 //! said of what was lost, what a boot took, or in which order messages came.
-ghost use Rattle.std.specs.Prelude.{◌≡◌, ◌≢◌, ◌≤◌, ◌↔◌, Bool, true, false, List, [], ◌∷◌, ℕ, Some, None, Ok, Err, IsOk, IsErr, IfSome, length, map};
+ghost use Rattle.std.specs.Prelude.{◌≡◌, ◌≢◌, ◌≤◌, ◌↔◌, Bool, true, false, List, [], ◌∷◌, ℕ, Some, None, Ok, Err, IsOk, IsErr, IfSome, codes, length, map};
 ghost use Rattle.card_store.specs.Holding.{Mark};
 ghost use Rattle.card_store.specs.Standing.{Stands};
 ghost use Rattle.iot_schedule.specs.Ranges.{IsDevice};
@@ -26,7 +26,7 @@ ghost use Rattle.small_world.specs.Lines.{acted};
 ghost use Rattle.small_world.specs.Lossless.{NoneLost, Made, AreApart};
 ghost use Rattle.small_world.specs.Modems.{attached, enabled_lit, told_since};
 ghost use Rattle.small_world.specs.Printing.{printed};
-ghost use Rattle.small_world.specs.Runs.{Turn, given, is_boot, world_after, AreSteps};
+ghost use Rattle.small_world.specs.Runs.{Turn, given, is_boot, steps_card, MayTurn, world_after, AreSteps};
 ghost use Rattle.small_world.specs.Stepping.{attempt, commanded, booted, IsSameCard};
 ghost use Rattle.small_world.specs.Stretches.{fates, is_cut, stretches};
 ghost use Rattle.small_world.specs.Taking.{Hands, SaysLoaded, Carries};
@@ -82,7 +82,7 @@ pub fn marks_tell_the_history()
 
 /// Whether a boot took the unit that was in progress is what the chip showed, and nothing else: the two
 /// cards differ, also in their next numbers or their count of pending results, and no image of a chip
-/// stands for both.
+/// stands for both. A boot of a lit card changes no unit.
 pub fn boots_show_one_card()
     ensures full { (d : Device) (handed_in : List Seen) (ts : List Turn) (u : CardUnit) → IsDevice d → AreSteps ts
         → attempt (world_after (start_world d handed_in) ts).marks ≡ Some u
@@ -94,6 +94,16 @@ pub fn boots_show_one_card()
         → attempt (world_after (start_world d handed_in) ts).marks ≡ Some u
         → Stands (full_of (with_unit (world_after (start_world d handed_in) ts).history u)) image
         → ¬ Stands (full_of (world_after (start_world d handed_in) ts).history) image }
+    ensures lit { (d : Device) (handed_in : List Seen) (ts : List Turn) (lost taken : Bool) → (world_after (start_world d handed_in) ts).lit ≡ true
+        → (booted lost taken (world_after (start_world d handed_in) ts)).history ≡ (world_after (start_world d handed_in) ts).history }
+{}
+
+/// Each line can be taken in each world, so no line ends a run. One that doesn't step the card leaves
+/// no choice. A line prints `lost` exactly where it is lost.
+pub fn lines_leave_choices()
+    ensures some { (w : SmallWorld) (l : Line) → (t : Turn) × (t.line ≡ l) × MayTurn w t }
+    ensures none { (w : SmallWorld) (t : Turn) → MayTurn w t → steps_card w t.line ≡ false → (t.lost ≡ false) × (t.taken ≡ false) }
+    ensures lost { (w : SmallWorld) (t : Turn) → MayTurn w t → (printed w t.line t.lost ≡ codes "lost") ↔ (t.lost ≡ true) }
 {}
 
 /// A line does to the card what the command that it gives does. One that gives none, that is no boot

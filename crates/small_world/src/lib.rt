@@ -5,10 +5,16 @@
 
 mod laws;
 mod reply;
+mod worked;
 
 pub use laws::{
-    boots_show_one_card, commands_reach_the_card, histories_are_legal, marks_tell_the_history,
-    modems_are_told_in_turn, newest_forms_lead, no_result_is_lost, numbers_name_forms,
-    packages_are_taken_where_the_checks_accept, redelivered_packages_are_refused,
+    boots_show_one_card, commands_reach_the_card, histories_are_legal, lines_leave_choices,
+    marks_tell_the_history, modems_are_told_in_turn, newest_forms_lead, no_result_is_lost,
+    numbers_name_forms, packages_are_taken_where_the_checks_accept,
+    redelivered_packages_are_refused,
 };
 pub use reply::Reply;
+pub use worked::{
+    far_plan_worked, late_acknowledgement_worked, lost_boot_worked, modems_worked, set_up_worked,
+    torn_load_worked, two_eims_worked,
+};
