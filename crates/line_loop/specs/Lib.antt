@@ -1,0 +1,5 @@
+pub mod Status
+pub mod Lines
+pub mod Sends
+pub mod Parts
+pub mod Runs
