@@ -1,6 +1,6 @@
 //! What answers frames.
 
-ghost use Rattle.std.specs.Prelude.{[]};
+ghost use Rattle.std.specs.Prelude.{[], OnOk};
 ghost use Rattle.run_loop.specs.Parts.{Walk, Stopping, Answers};
 
 use crate::halt::PartStop;
@@ -10,6 +10,9 @@ use std::alloc::Global;
 /// What answers frames one after the other, over an outside that is lent to it for each of them:
 /// `()` where it needs none.
 pub trait Part<W> {
+    /// What has to hold of the part and its outside before each frame; by default nothing has to.
+    ghost ready: { Self × W → Type 0 } = { λ _. Unit {0} };
+
     /// From the first part and outside on these frames led to the second, and this text is their
     /// answers: the frame of each, one behind the other.
     ghost behind: { Self × W → Self × W → Walk };
@@ -29,8 +32,10 @@ pub trait Part<W> {
         octets: &[u8],
         out: &mut Row<u8>,
     ) -> Result<(), PartStop>
-        ensures { Answers behind stops (self.old, outside.old) (self.new, outside.new)
-            octets.now out.old out.new result };
+        requires { ready (self.old, outside.old) }
+        ensures answers { Answers behind stops (self.old, outside.old) (self.new, outside.new)
+            octets.now out.old out.new result }
+        ensures ready { OnOk result (ready (self.new, outside.new)) };
 
     /// The law that no frame leads nowhere.
     ghost begins: { (first : Self × W) → behind first first [] [] };

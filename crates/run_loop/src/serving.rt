@@ -1,6 +1,6 @@
 //! The loop: a frame is read, answered and sent before the next one is read.
 
-ghost use Rattle.std.specs.Prelude.{◌≡◌, ℕ, ◌<◌, ◌≤◌, List, Option, Err, IfOk, IfErr};
+ghost use Rattle.std.specs.Prelude.{◌≡◌, ℕ, ◌<◌, ◌≤◌, List, Option, Err, IfOk, IfErr, OnOk};
 ghost use Rattle.run_loop.specs.Edges.{Edge, edge};
 ghost use Rattle.run_loop.specs.Parts.{Replies};
 ghost use Rattle.run_loop.specs.Runs.{Progress, Turned, Halted, Ended, IsUnopened};
@@ -45,9 +45,11 @@ fn reply<W, P: Part<W>>(
     octets: &[u8],
     out: &mut Row<u8>,
 ) -> Result<(), PartStop>
-    requires { out.old ≡ blank_head }
-    ensures { Replies P.behind P.stops (part.old, outside.old) (part.new, outside.new)
+    requires blank { out.old ≡ blank_head }
+    requires ready { P.ready (part.old, outside.old) }
+    ensures replies { Replies P.behind P.stops (part.old, outside.old) (part.new, outside.new)
         octets.now out.new result }
+    ensures ready { OnOk result (P.ready (part.new, outside.new)) }
 {
     part.answer(alloc, outside, octets, out)?;
     end_frame(out);
@@ -62,7 +64,8 @@ fn turn<W, P: Part<W>, S: Source, K: Sink>(
     source: &mut S,
     sink: &mut K,
 ) -> Result<(), Halt>
-    ensures { (first : P × W) (start : Edge) (count : ℕ) → count < MOST_FRAMES
+    requires { P.ready (part.old, outside.old) }
+    ensures turned { (first : P × W) (start : Edge) (count : ℕ) → count < MOST_FRAMES
         → Progress (P.behind first (part.old, outside.old)) start
         (edge (S.rest source.old) (S.faults source.old) (K.sent sink.old) (K.faults sink.old))
         count
@@ -70,6 +73,7 @@ fn turn<W, P: Part<W>, S: Source, K: Sink>(
         start
         (edge (S.rest source.new) (S.faults source.new) (K.sent sink.new) (K.faults sink.new))
         count result }
+    ensures ready { OnOk result (P.ready (part.new, outside.new)) }
 {
     let mut out = empty_answer(alloc)?;
     let frame = next_frame(alloc, source)?;
@@ -86,6 +90,7 @@ fn handle<W, P: Part<W>, S: Source, K: Sink>(
     source: &mut S,
     sink: &mut K,
 ) -> Last
+    requires { P.ready (part.old, outside.old) }
     ensures { Halted (P.behind (part.old, outside.old) (part.new, outside.new))
         (P.stops (part.old, outside.old) (part.new, outside.new))
         (edge (S.rest source.old) (S.faults source.old) (K.sent sink.old) (K.faults sink.old))
@@ -131,6 +136,7 @@ pub fn serve<W, P: Part<W>, S: Source, K: Sink>(
     source: &mut S,
     sink: &mut K,
 ) -> RunEnd
+    requires { P.ready (part.old, outside.old) }
     ensures { Ended (P.behind (part.old, outside.old) (part.new, outside.new))
         (P.stops (part.old, outside.old) (part.new, outside.new))
         (edge (S.rest source.old) (S.faults source.old) (K.sent sink.old) (K.faults sink.old))

@@ -8,4 +8,4 @@ invariant-loop-handled g l =
     let reads = g.S.Source.faults in
     let sent = g.K.Sink.sent in
     let writes = g.K.Sink.faults in
-    Progress (g.P.Part.behind (l.fn.part, l.fn.outside) (l.part, l.outside)) (edge (rest l.fn.source) (reads l.fn.source) (sent l.fn.sink) (writes l.fn.sink)) (edge (rest l.source) (reads l.source) (sent l.sink) (writes l.sink)) l.handled
+    g.P.Part.ready (l.part, l.outside) × Progress (g.P.Part.behind (l.fn.part, l.fn.outside) (l.part, l.outside)) (edge (rest l.fn.source) (reads l.fn.source) (sent l.fn.sink) (writes l.fn.sink)) (edge (rest l.source) (reads l.source) (sent l.sink) (writes l.sink)) l.handled

@@ -5,8 +5,8 @@ use Rattle.lone_parts.specs.Ipas.{Alone, alone, LedTo}
 use Rattle.lone_parts.proofs.IpaSteps.{answered, stopped}
 use Rattle.lone_parts.proofs.ipa_part.IpaPartPartUnit.answer.Goals as goal
 
-pub returns-in-Ok-write_deeds : goal.returns-in-Ok-write_deeds
-returns-in-Ok-write_deeds c = record {
+pub returns-in-Ok-write_deeds-clause-answers : goal.returns-in-Ok-write_deeds-clause-answers
+returns-in-Ok-write_deeds-clause-answers c = record {
   content = deeds c.in-Ok.deeds;
   appended = c.in-Ok-write_deeds.ensures.ok;
   short = omega (arith, deeds_few c.in-Ok.deeds c.in-Ok.ensures.range);
@@ -15,7 +15,7 @@ returns-in-Ok-write_deeds c = record {
       (subst (λ (a : Alone). LedTo first.0 a fs text) (sym c.self.view_is) led);
 }
 
-pub returns : goal.returns
-returns c = λ first fs text led.
+pub returns-clause-answers : goal.returns-clause-answers
+returns-clause-answers c = λ first fs text led.
     stopped first.0 (alone c.self.inside) c.args.octets.now c.in-Err.stop c.reply.new.ipa c.in-Err.ensures.replied fs text
     (subst (λ (a : Alone). LedTo first.0 a fs text) (sym c.self.view_is) led)
