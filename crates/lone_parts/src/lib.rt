@@ -10,3 +10,6 @@ mod unread;
 pub use eim_part::EimPart;
 pub use ipa_part::IpaPart;
 pub use runs::{run_eim, run_ipa};
+
+#[cfg(test)]
+mod tests;

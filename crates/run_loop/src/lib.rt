@@ -17,3 +17,6 @@ pub use halt::{Halt, PartStop, ReadStop, RunEnd, SendStop};
 pub use part::Part;
 pub use reading::MOST_FRAMES;
 pub use serving::{end_unopened, serve};
+
+#[cfg(test)]
+mod tests;
