@@ -7,6 +7,12 @@ use Rattle.small_card.specs.Cards.{EimList}
 use Rattle.small_card.specs.EimOperations.{is_empty_list, last_association}
 use Rattle.small_card.specs.Histories.{History, card_of, former_of, full_of}
 use Rattle.small_card.specs.Legal.{IsLegal}
+use Rattle.small_card.specs.Ranges.{IsAnswer, IsCommand, IsRefused}
+use Rattle.std.specs.List.{AllPass}
+use Rattle.sgp_values.specs.Ranges.{is_octet}
+use Rattle.package_codec.proofs.InRange.{reads_in_range}
+use Rattle.package_codec.proofs.Replying.{reply_fits}
+use Rattle.esipa_codec.specs.Eims.{EimState}
 use Rattle.small_card.specs.Units.{is_pending}
 use Rattle.small_card.specs.declared.types.Answer.{Answer}
 use Rattle.small_card.specs.declared.types.Answer.TheVariants as answer
@@ -40,10 +46,10 @@ AreSent h ps = Every (λ p. IsSent (forms h) p.message) ps
 abbrev pub SendsTrue : History → Answer → Type 0
 SendsTrue h a = (es : List IpaEvent) → AreSent h (posts_of (answer_act es a))
 
-refusal_true : (h : History) (o : Option (List ℕ)) (f : Refused) → AreSent h (posts_of (refusal_to o f))
+refusal_true : (h : History) (o : Option (List ℕ)) (f : Refused) → IsRefused f → AreSent h (posts_of (refusal_to o f))
 unfolding posts_of
-refusal_true h None f = tt
-refusal_true h (Some id) f = (tt, tt)
+refusal_true h None f i = tt
+refusal_true h (Some id) f i = (i, tt)
 
 results_true : (h : History) (rs : List PackageResult) → Every (λ r. Has r (forms h)) rs → AreSent h (posts_of (results_to rs))
 unfolding posts_of
@@ -56,10 +62,14 @@ pending_forms h l e =
     let n = numbered h l e in
     every_mono (λ r. Has r (newest h)) (λ r. Has r (forms h)) (λ r i. has_every (λ x. Has x (forms h)) (newest h) r n.inside i) (card_of h).results.pending n.pending
 
-load_true : (h : History) (r : Result Package Refused) → SendsTrue h (load_reply h r)
-unfolding posts_of
-load_true h (Ok p) es = tt
-load_true h (Err f) es = refusal_true h (asked es) f
+load_true : (h : History) (r : Result Package Refused) → IsAnswer (load_reply h r) → SendsTrue h (load_reply h r)
+unfolding posts_of IsAnswer
+load_true h (Ok p) a es = tt
+load_true h (Err f) a es = refusal_true h (asked es) f a
+
+load_answer : (h : History) (good : Bool) (bytes : List ℕ) → IsLegal h → AllPass is_octet bytes → IsAnswer (load_reply h (check h good bytes))
+unfolding reply IsCommand
+load_answer h good bytes l o = reply_fits reads_in_range h (command.Load good bytes) l o
 
 roll_true : (h : History) (o : Option Armed) → SendsTrue h (rollback_reply h o)
 unfolding posts_of
@@ -72,15 +82,15 @@ initial_true h ms es =
     cond_both (not (is_empty_list ms.entries)) (answer.InitialRefused 1) (cond (ms.next == last_association) (answer.InitialRefused 2) (answer.Associated ms.next)) (λ a. AreSent h (posts_of (answer_act es a))) (λ _. tt)
     (λ _. cond_both (ms.next == last_association) (answer.InitialRefused 2) (answer.Associated ms.next) (λ a. AreSent h (posts_of (answer_act es a))) (λ _. tt) (λ _. tt))
 
-reply_true : (h : History) (c : Command) → IsLegal h → h.start.card.results.pending ≡ [] → SendsTrue h (reply h c)
+reply_true : (h : History) (c : Command) (ds : List EimState) → IsLegal h → h.start.card.results.pending ≡ [] → IsGood ds c → SendsTrue h (reply h c)
 unfolding reply posts_of
-reply_true h (command.Personalise eid profiles) l f es = tt
-reply_true h (command.Load good bytes) l f es = load_true h (check h good bytes) es
-reply_true h command.Rollback l f es = roll_true h (former_of h) es
-reply_true h (command.Remove seq) l f es = cond_both (is_pending seq (card_of h).results.pending) answer.Removed answer.Absent (λ a. AreSent h (posts_of (answer_act es a))) (λ _. tt) (λ _. tt)
-reply_true h command.Results l f es = results_true h (card_of h).results.pending (pending_forms h l f)
-reply_true h command.Eims l f es = tt
-reply_true h (command.Initial i a k) l f es = initial_true h (card_of h).eims es
+reply_true h (command.Personalise eid profiles) ds l f g es = tt
+reply_true h (command.Load good bytes) ds l f g es = load_true h (check h good bytes) (load_answer h good bytes l g) es
+reply_true h command.Rollback ds l f g es = roll_true h (former_of h) es
+reply_true h (command.Remove seq) ds l f g es = cond_both (is_pending seq (card_of h).results.pending) answer.Removed answer.Absent (λ a. AreSent h (posts_of (answer_act es a))) (λ _. tt) (λ _. tt)
+reply_true h command.Results ds l f g es = results_true h (card_of h).results.pending (pending_forms h l f)
+reply_true h command.Eims ds l f g es = tt
+reply_true h (command.Initial i a k) ds l f g es = initial_true h (card_of h).eims es
 
 -- what was true before a command is true after it
 after_true : (h : History) (c : Command) (ps : List Post) → AreSent h ps → AreSent (after h c) ps
@@ -101,7 +111,7 @@ told_keeps w a s k = keeps_up w.history (attempt w.marks) w.to_eims (posts_of (a
 replied_keeps : (w : SmallWorld) (c : Command) (lost : Bool) → IsGood w.eims c → KeepsWorld w → KeepsWorld (told_answer (reply w.history c) (commanded c lost w))
 replied_keeps w c lost g k =
     told_keeps (commanded c lost w) (reply w.history c)
-    (λ es. commanded_true w c lost (posts_of (answer_act es (reply w.history c))) (reply_true w.history c k.legal k.fresh es))
+    (λ es. commanded_true w c lost (posts_of (answer_act es (reply w.history c))) (reply_true w.history c w.eims k.legal k.fresh g es))
     (commanded_keeps w c lost g k)
 
 pub asked_keeps : (w : SmallWorld) (c : Command) (lost : Bool) → IsGood w.eims c → KeepsWorld w → KeepsWorld (asked_card c lost w)

@@ -29,36 +29,20 @@ use Rattle.small_world.specs.Worlds.{SmallWorld}
 use Rattle.small_world.proofs.HasLemmas.{if_some}
 use Rattle.small_world.proofs.Invariant.{IsSpelled, MayCome, Keeps, KeepsWorld, keeps_grown, keeps_tried}
 use Rattle.small_world.proofs.Keeping.{IsAcked, IsSafe}
+use Rattle.small_world.proofs.Spelled.{signed_octets}
 
--- what these octets are read as is in range
-abbrev pub ReadsWell : List ℕ → Type 0
-ReadsWell bytes = (s : Signed) → signed_at bytes ≡ Some s → IsSigned s
-
-pub octets_read_well : (bytes : List ℕ) → AllPass is_octet bytes → ReadsWell bytes
-octets_read_well bytes o s e = reads_in_range bytes s o e
-
-pub spelled_reads_well : (bytes : List ℕ) → IsSpelled bytes → ReadsWell bytes
-spelled_reads_well bytes p s e =
-    let again : signed_at bytes ≡ Some p.0 = subst (λ (b : List ℕ). signed_at b ≡ Some p.0) (sym p.2) (reads_again signed_codec p.0 p.1) in
-    let is : p.0 ≡ s = cc in
-    subst IsSigned is p.1
+pub spelled_octets : (bytes : List ℕ) → IsSpelled bytes → AllPass is_octet bytes
+spelled_octets bytes p = subst (AllPass is_octet) (sym p.2) (signed_octets p.0 p.1)
 
 -- a command in its ranges; of a remove, that an eIM received the number
 abbrev pub IsGood : List EimState → Command → Type 0
 IsGood es (command.Personalise eid profiles) = Unit {0}
-IsGood es (command.Load good bytes) = ReadsWell bytes
+IsGood es (command.Load good bytes) = AllPass is_octet bytes
 IsGood es command.Rollback = Unit {0}
 IsGood es (command.Remove seq) = IsAcked es seq
 IsGood es command.Results = Unit {0}
 IsGood es command.Eims = Unit {0}
 IsGood es (command.Initial i a k) = IsEimId i × IsAddress a × IsKey k
-
-load_may : (h : History) (good : Bool) (bytes : List ℕ) (r : Result Package Refused) → check h good bytes ≡ r → ReadsWell bytes → IfSome (unit_of_load r) (May h)
-unfolding May
-load_may h good bytes (Err f) e w = tt
-load_may h good bytes (Ok p) e w =
-    let a = accepted h good bytes p e in
-    record { range = subst IsPackage a.read.2 (w a.read.0 a.read.1).«package»; checks = a.values }
 
 remove_may : (h : History) (seq : ℕ) → IfSome (unit_of h (command.Remove seq)) (May h)
 unfolding unit_of May
@@ -72,14 +56,10 @@ no_unit : (h : History) (eid : List ℕ) (profiles : _) → IfSome (unit_of h (c
 unfolding unit_of
 no_unit h eid profiles = tt
 
-load_unit_may : (h : History) (good : Bool) (bytes : List ℕ) → ReadsWell bytes → IfSome (unit_of h (command.Load good bytes)) (May h)
-unfolding unit_of
-load_unit_may h good bytes w = load_may h good bytes (check h good bytes) refl w
-
 good_may : (h : History) (c : Command) (es : List EimState) → IsLegal h → IsGood es c → IfSome (unit_of h c) (May h)
 unfolding IsCommand
 good_may h (command.Personalise eid profiles) es l g = no_unit h eid profiles
-good_may h (command.Load good bytes) es l g = load_unit_may h good bytes g
+good_may h (command.Load good bytes) es l g = command_may h (command.Load good bytes) l g
 good_may h command.Rollback es l g = command_may h command.Rollback l tt
 good_may h (command.Remove seq) es l g = remove_may h seq
 good_may h command.Results es l g = command_may h command.Results l tt

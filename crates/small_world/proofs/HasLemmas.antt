@@ -97,6 +97,11 @@ at_every P xs n h = if_some (slice_get xs n) P (λ x e. has_every P xs x h (has_
 pub found_fits : {X : Type 0} (P : X → Type 0) (t : X → Bool) (xs : List X) → Every P xs → IfSome (find t xs) P
 found_fits P t xs h = if_some (find t xs) P (λ x e. has_every P xs x h (has_found t xs x e).0)
 
+-- what every element has, the last one has
+pub every_last : {X : Type 0} (P : X → Type 0) (xs : List X) (x : X) → Every P (xs ++ x ∷ []) → P x
+every_last P [] x h = h.0
+every_last P (y ∷ ys) x h = every_last P ys x h.1
+
 -- below the last number
 pub below_last : (n last : ℕ) → n ≤ last → n ≢ last → n + 1 ≤ last
 below_last n last l e = omega (arith, l, e)

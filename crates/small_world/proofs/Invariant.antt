@@ -8,7 +8,7 @@ use Rattle.sgp_values.specs.Ranges.{IsEimId}
 use Rattle.small_card.specs.Lists.{Every}
 use Rattle.small_card.specs.Histories.{History, card_of, with_unit}
 use Rattle.small_card.specs.Legal.{May, IsLegal, IsLegalFrom}
-use Rattle.small_card.specs.Ranges.{IsNumber, IsCounter, IsBody, IsSigned, greatest_counter}
+use Rattle.small_card.specs.Ranges.{IsNumber, IsCounter, IsBody, IsSigned, IsRefused, greatest_counter}
 use Rattle.small_card.specs.Units.{CardUnit, initial, load, rollback, remove}
 use Rattle.small_card.specs.declared.types.PackageResult.{PackageResult}
 use Rattle.small_card.specs.declared.types.Signed.{Signed}
@@ -32,11 +32,11 @@ use Rattle.small_world.specs.declared.reply.Reply.{Reply}
 use Rattle.small_world.proofs.HasLemmas.{has_map}
 use Rattle.small_world.proofs.Keeping.{IsReceived, IsAcked, Kept, Truthful, IsSafe, more_kept, forms_more, truthful_more}
 
--- a result that was sent is a form
+-- a message that was sent is in range, and a result is a form
 abbrev pub IsSent : List PackageResult → ToEim → Type 0
-IsSent fs (up.Poll eid) = Unit {0}
+IsSent fs (up.Poll eid) = IsEid eid
 IsSent fs (up.Result r) = Has r fs
-IsSent fs (up.Refused f) = Unit {0}
+IsSent fs (up.Refused f) = IsRefused f
 
 -- octets that spell a signed package in range
 abbrev pub IsSpelled : List ℕ → Type 0
@@ -87,9 +87,9 @@ KeepsWorld w = Keeps w.history (attempt w.marks) w.to_eims w.to_ipa w.eims
 
 -- the history grows
 sent_more : (h : History) (u : CardUnit) (m : ToEim) → IsSent (forms h) m → IsSent (forms (with_unit h u)) m
-sent_more h u (up.Poll eid) s = tt
+sent_more h u (up.Poll eid) s = s
 sent_more h u (up.Result r) s = forms_more h u r s
-sent_more h u (up.Refused f) s = tt
+sent_more h u (up.Refused f) s = s
 
 pub sent_grown : (h : History) (o : Option CardUnit) (m : ToEim) → IsSent (forms h) m → IsSent (forms (grown o h)) m
 sent_grown h None m s = s

@@ -19,3 +19,6 @@ mod Computing
 mod Playing
 pub mod Leaving
 pub mod Losing
+pub mod Spelled
+pub mod Ranging
+pub mod Planning

@@ -34,27 +34,27 @@ use Rattle.small_world.specs.Stepping.{attempt}
 use Rattle.small_world.specs.Worlds.{SmallWorld, started, start_world, eid_of}
 use Rattle.small_world.specs.declared.reply.Reply.{Reply}
 use Rattle.small_world.proofs.Acts.{IsGoodAct, acts_keeps, handed_keeps}
-use Rattle.small_world.proofs.Commanding.{octets_read_well, spelled_reads_well, commanded_keeps, booted_keeps}
+use Rattle.small_world.proofs.Commanding.{spelled_octets, commanded_keeps, booted_keeps}
 use Rattle.small_world.proofs.Delivering.{gone_up_keeps, bound_change, ordered_change, skipped_change, joined_keeps}
 use Rattle.small_world.proofs.HasLemmas.{at_every}
 use Rattle.small_world.proofs.Invariant.{IsSent, IsAnswered, MayCome, KeepsWorld, at_eim_keeps}
 use Rattle.small_world.proofs.Keeping.{none_lost, all_made}
 
 -- what is picked has what every element has
-picked_every : {X : Type 0} (P : X → Type 0) (p : Pick) (xs : List X) → Every P xs → IfSome (picked p xs) P
+pub picked_every : {X : Type 0} (P : X → Type 0) (p : Pick) (xs : List X) → Every P xs → IfSome (picked p xs) P
 unfolding picked
 picked_every P (At n) xs h = at_every P xs n h
 picked_every P Last xs h = at_every P xs (length xs - 1) h
 
 polled_keeps : (w : SmallWorld) (id : List ℕ) → KeepsWorld w → KeepsWorld (polled id w)
 unfolding polled act_of command_of posts_of
-polled_keeps w id k = cond_both (is_known id w.eims) (acts (poll id (eid_of w)) false w) w KeepsWorld (λ _. acts_keeps w (poll id (eid_of w)) false (tt, tt) k) (λ _. k)
+polled_keeps w id k = cond_both (is_known id w.eims) (acts (poll id (eid_of w)) false w) w KeepsWorld (λ _. acts_keeps w (poll id (eid_of w)) false (k.eid, tt) k) (λ _. k)
 
 -- the act for a message that was sent is good
 message_good : (w : SmallWorld) (from : List ℕ) (m : ToIpa) (good : Bool) → IsAnswered w.eims m
     → IsGoodAct w (command_of (act_of w.assistant (message from m good))) (posts_of (act_of w.assistant (message from m good)))
 unfolding act_of command_of posts_of
-message_good w from (down.Package bytes) good a = spelled_reads_well bytes a
+message_good w from (down.Package bytes) good a = spelled_octets bytes a
 message_good w from down.Nothing good a = tt
 message_good w from (down.Ack seq) good a = a
 
@@ -87,7 +87,7 @@ acted_keeps w (line.Skip id) lost taken i k = at_eim_keeps w.history (attempt w.
 acted_keeps w (line.Poll id) lost taken i k = polled_keeps w id k
 acted_keeps w (line.Up pick) lost taken i k = gone_up_keeps w (picked pick w.to_eims) (picked_every (λ p. IsSent (forms w.history) p.message) pick w.to_eims k.sent) k
 acted_keeps w (line.Down pick good) lost taken i k = gone_down_keeps w (picked pick w.to_ipa) good lost (picked_every (λ r. IsAnswered w.eims r.message) pick w.to_ipa k.acked) k
-acted_keeps w (line.Load good bytes) lost taken i k = handed_keeps w good bytes lost (octets_read_well bytes i) k
+acted_keeps w (line.Load good bytes) lost taken i k = handed_keeps w good bytes lost i k
 acted_keeps w line.Push lost taken i k = push_keeps w lost k
 acted_keeps w (line.Probe passed) lost taken i k = acts_keeps w (probe passed) lost (probe_good w passed) k
 acted_keeps w line.Rollback lost taken i k = commanded_keeps w command.Rollback lost tt k

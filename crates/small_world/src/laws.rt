@@ -4,7 +4,9 @@
 ghost use Rattle.std.specs.Prelude.{◌≡◌, ◌≢◌, ◌≤◌, ◌↔◌, Bool, true, false, List, [], ◌∷◌, ℕ, Some, None, Ok, Err, IsOk, IsErr, IfSome, codes, length, map};
 ghost use Rattle.card_store.specs.Holding.{Mark};
 ghost use Rattle.card_store.specs.Standing.{Stands};
-ghost use Rattle.iot_schedule.specs.Ranges.{IsDevice};
+ghost use Rattle.esipa_codec.specs.Ranges.{IsToEim, IsToIpa};
+ghost use Rattle.iot_schedule.specs.Ranges.{IsDevice, IsStep};
+ghost use Rattle.small_card.specs.Ranges.{IsCommand};
 ghost use Rattle.iot_schedule.specs.declared.types.Device.{Device};
 ghost use Rattle.iot_schedule.specs.declared.types.Line.{Line};
 ghost use Rattle.modem_bank.specs.Modems.{Seen};
@@ -107,12 +109,24 @@ pub fn lines_leave_choices()
 {}
 
 /// A line does to the card what the command that it gives does. One that gives none, that is no boot
-/// and plans no cut, leaves the card, its marks, its power and the plan.
+/// and plans no cut, leaves the card, its marks, its power and the plan. One that steps the card ends
+/// the plan.
 pub fn commands_reach_the_card()
     ensures command { (w : SmallWorld) (l : Line) (c : Command) (lost taken : Bool) → given w l ≡ Some c
         → IsSameCard (commanded c lost w) (acted l lost taken w) }
     ensures others { (w : SmallWorld) (l : Line) (lost taken : Bool) → given w l ≡ None → is_boot l ≡ false → is_cut l ≡ false
         → IsSameCard w (acted l lost taken w) }
+    ensures plan { (w : SmallWorld) (l : Line) (lost taken : Bool) → steps_card w l ≡ true → (acted l lost taken w).plan ≡ None }
+{}
+
+/// Every message that was sent is in its ranges, and so is every command that a line gives to the card.
+pub fn messages_are_in_range()
+    ensures up { (d : Device) (handed_in : List Seen) (ts : List Turn) → IsDevice d → AreSteps ts
+        → Every (λ p. IsToEim p.message) (world_after (start_world d handed_in) ts).to_eims }
+    ensures down { (d : Device) (handed_in : List Seen) (ts : List Turn) → IsDevice d → AreSteps ts
+        → Every (λ r. IsToIpa r.message) (world_after (start_world d handed_in) ts).to_ipa }
+    ensures commands { (d : Device) (handed_in : List Seen) (ts : List Turn) (l : Line) (c : Command) → IsDevice d → AreSteps ts → IsStep l
+        → given (world_after (start_world d handed_in) ts) l ≡ Some c → IsCommand c }
 {}
 
 /// A package that a line hands to a lit card prints `loaded`, where the line isn't lost, exactly where

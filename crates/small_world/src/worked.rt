@@ -1,6 +1,6 @@
 //! Worked examples: runs and their texts, as functions that do nothing. Each begins behind the set-up
 //! of one device and one eIM.
-ghost use Rattle.std.specs.Prelude.{◌≡◌, ◌∷◌, ◌++◌, [], codes};
+ghost use Rattle.std.specs.Prelude.{◌≡◌, ◌∷◌, ◌++◌, [], true, codes};
 ghost use Rattle.chip_port.specs.declared.chip.Tear.TheVariants as tear;
 ghost use Rattle.iot_schedule.specs.declared.types.Line.TheVariants as line;
 ghost use Rattle.small_card.specs.Examples.{e1, e2, switch, show};
@@ -25,7 +25,8 @@ pub fn lost_boot_worked()
 
 /// A load that is torn before its first call: nothing is loaded, and the same message loads the package
 /// after a boot. Where the boot took the package, the message is a replay, and the refusal is sent. The
-/// plan goes with the line that was lost, and not with those of a dark card.
+/// plan goes with the line that was lost, and not with those of a dark card. The refusal of a package
+/// that came without a message is sent to nobody.
 pub fn torn_load_worked()
     ensures may { MayBe dark_device [] (torn_load ++ kept_on line.Boot ∷ goes_down 0 ∷ []) }
     ensures texts { texts_of dark_device [] (torn_load ++ kept_on line.Boot ∷ goes_down 0 ∷ [])
@@ -33,6 +34,8 @@ pub fn torn_load_worked()
     ensures may_take { MayBe dark_device [] (torn_load ++ taking_boot ∷ goes_down 0 ∷ []) }
     ensures taken { texts_of dark_device [] (torn_load ++ taking_boot ∷ goes_down 0 ∷ [])
         ≡ torn_texts ++ codes "booted" ∷ codes "refused 6 kept 1 received 1 sent 1" ∷ [] }
+    ensures unsent { texts_of dark_device [] (torn_load ++ kept_on line.Boot ∷ kept_on (line.Load true []) ∷ kept_on (line.Poll e1) ∷ [])
+        ≡ torn_texts ++ codes "booted" ∷ codes "refused 1" ∷ codes "sent 1" ∷ [] }
 {}
 
 /// A plan that is far away is dropped with the next line that steps the card.

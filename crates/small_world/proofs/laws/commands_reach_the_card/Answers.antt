@@ -1,3 +1,4 @@
+use Rattle.small_world.proofs.Planning.{step_ends}
 use Rattle.small_world.proofs.Reaching.{command_reaches, nothing_reaches}
 use Rattle.small_world.proofs.laws.commands_reach_the_card.Goals as goal
 
@@ -6,3 +7,6 @@ returns-clause-command c = command_reaches
 
 pub returns-clause-others : goal.returns-clause-others
 returns-clause-others c = nothing_reaches
+
+pub returns-clause-plan : goal.returns-clause-plan
+returns-clause-plan c = step_ends

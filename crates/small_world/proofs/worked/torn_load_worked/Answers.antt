@@ -20,3 +20,7 @@ returns-clause-may_take c = plays (ready dark_device []) (torn_load ++ taking_bo
 pub returns-clause-taken : goal.returns-clause-taken
 unfolding computing_world
 returns-clause-taken c = refl
+
+pub returns-clause-unsent : goal.returns-clause-unsent
+unfolding computing_world
+returns-clause-unsent c = refl
