@@ -1,27 +1,23 @@
 -- The card's steps keep the invariant: a command, answered or lost, and a boot.
-use Rattle.std.proofs.Common.{◌≡◌, ℕ, Bool, true, false, not, cond, List, [], ◌∷◌, refl, sym, subst, Option, None, Some, Result, Ok, Err}
+use Rattle.std.proofs.Common.{ℕ, Bool, true, false, not, cond, List, [], ◌∷◌, sym, subst, Option, None, Some, Result, Ok, Err}
 use Rattle.std.specs.Prelude.{◌==◌, IfSome}
 use Rattle.std.specs.List.{AllPass}
 use Rattle.std.proofs.lemmas.Bool.{cond_both}
-use Rattle.sgp_fields.proofs.Clauses.{reads_again}
 use Rattle.sgp_values.specs.Ranges.{is_octet, IsEimId, IsAddress, IsKey}
 use Rattle.small_card.specs.EimOperations.{is_empty_list, last_association}
 use Rattle.small_card.specs.Histories.{History, card_of, former_of}
 use Rattle.small_card.specs.Legal.{May, IsLegal}
-use Rattle.small_card.specs.Ranges.{IsCommand, IsSigned, IsPackage}
+use Rattle.small_card.specs.Ranges.{IsCommand}
 use Rattle.small_card.specs.Units.{CardUnit, initial, remove, is_pending}
 use Rattle.small_card.specs.declared.types.Armed.{Armed}
 use Rattle.small_card.specs.declared.types.Command.{Command}
 use Rattle.small_card.specs.declared.types.Command.TheVariants as command
 use Rattle.small_card.specs.declared.types.Package.{Package}
 use Rattle.small_card.specs.declared.types.Refused.{Refused}
-use Rattle.small_card.specs.declared.types.Signed.{Signed}
 use Rattle.package_codec.specs.Checks.{check}
-use Rattle.package_codec.specs.Reading.{signed_at}
 use Rattle.package_codec.specs.Replies.{unit_of_load, unit_of_rollback, unit_of, grown, after}
 use Rattle.package_codec.proofs.InRange.{reads_in_range}
-use Rattle.package_codec.proofs.Packages.{signed_codec}
-use Rattle.package_codec.proofs.Replying.{accepted, unit_may}
+use Rattle.package_codec.proofs.Replying.{unit_may}
 use Rattle.card_store.specs.Holding.{Mark, standing}
 use Rattle.esipa_codec.specs.Eims.{EimState}
 use Rattle.small_world.specs.Stepping.{tried, attempt, answered_step, lost_step, commanded, woken, booted}

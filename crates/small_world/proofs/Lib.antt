@@ -22,3 +22,5 @@ pub mod Losing
 pub mod Spelled
 pub mod Ranging
 pub mod Planning
+pub mod Showing
+pub mod Growing

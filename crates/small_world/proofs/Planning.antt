@@ -1,8 +1,8 @@
 -- A line that steps the card ends the plan.
-use Rattle.std.proofs.Common.{◌≡◌, ℕ, Bool, true, false, cond, List, ◌∷◌, refl, ◌∙◌, sym, subst, Option, None, Some}
-use Rattle.std.specs.Prelude.{◌&&◌, ◌||◌, is_some}
-use Rattle.std.proofs.lemmas.Bool.{cond_both, and_parts, or_cases, or_from, false≢true}
-use Rattle.std.proofs.Common.{◌⊎◌, inl, inr}
+use Rattle.std.proofs.Common.{◌≡◌, Bool, true, false, cond, ◌∷◌, refl, ◌∙◌, sym, Option, None, Some}
+use Rattle.std.specs.Prelude.{◌&&◌, is_some}
+use Rattle.std.proofs.lemmas.Bool.{cond_both, and_parts, or_cases, false≢true}
+use Rattle.std.proofs.Common.{inl, inr}
 use Rattle.small_card.specs.declared.types.Command.{Command}
 use Rattle.card_store.specs.Holding.{standing}
 use Rattle.iot_schedule.specs.declared.types.Line.{Line}

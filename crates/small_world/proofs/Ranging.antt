@@ -1,9 +1,7 @@
 -- Every form of a result, every message and every command is in its range.
-use Rattle.std.proofs.Common.{◌≡◌, ◌⊎◌, inl, inr, ℕ, ◌+◌, ◌≤◌, Bool, true, false, cond, List, [], ◌∷◌, ◌++◌, map, length, refl, sym, subst, arith, Option, None, Some}
+use Rattle.std.proofs.Common.{◌≡◌, ℕ, ◌≤◌, Bool, true, false, List, [], ◌∷◌, length, sym, subst, arith, Option, None, Some}
 use Rattle.std.specs.Prelude.{◌==◌, ◌%◌, IfSome}
-use Rattle.std.specs.List.{AllPass}
 use Rattle.std.proofs.lemmas.Bool.{cond_both}
-use Rattle.sgp_values.specs.Ranges.{is_octet}
 use Rattle.small_card.specs.Lists.{Every}
 use Rattle.small_card.specs.Cards.{FullCard}
 use Rattle.small_card.specs.Histories.{History, card_of, full_of, with_unit}
@@ -11,18 +9,16 @@ use Rattle.small_card.specs.Legal.{IsLegal, IsLegalFrom}
 use Rattle.small_card.specs.Packages.{result_of}
 use Rattle.small_card.specs.Ranges.{IsNumber, IsResult, IsCommand}
 use Rattle.small_card.specs.Units.{CardUnit, initial, load, rollback, remove, has_seq, with_mark}
-use Rattle.small_card.specs.Valid.{IsValid, IsValidCard, IsPending}
+use Rattle.small_card.specs.Valid.{IsPending}
 use Rattle.small_card.specs.declared.types.Armed.{Armed}
 use Rattle.small_card.specs.declared.types.Command.{Command}
-use Rattle.small_card.specs.declared.types.Command.TheVariants as command
 use Rattle.small_card.specs.declared.types.Package.{Package}
 use Rattle.small_card.specs.declared.types.PackageResult.{PackageResult}
 use Rattle.small_card.proofs.ListLemmas.{every_mono, every_append, every_map}
 use Rattle.small_card.proofs.Validity.{legal_valid}
-use Rattle.package_codec.specs.Spelling.{signed}
 use Rattle.package_codec.proofs.Packages.{signed_few}
 use Rattle.package_codec.proofs.Replying.{loaded_pending}
-use Rattle.esipa_codec.specs.Assistant.{IpaEvent, push, message, probe, act_of, failures}
+use Rattle.esipa_codec.specs.Assistant.{push, message, probe, act_of, failures}
 use Rattle.esipa_codec.specs.Eims.{EimState}
 use Rattle.esipa_codec.specs.Ranges.{IsToEim, IsToIpa}
 use Rattle.esipa_codec.specs.declared.ends.Act.{Act}
@@ -35,7 +31,7 @@ use Rattle.iot_schedule.specs.Ranges.{IsStep}
 use Rattle.iot_schedule.specs.declared.types.Line.{Line}
 use Rattle.iot_schedule.specs.declared.types.Line.TheVariants as line
 use Rattle.small_world.specs.Acting.{command_of}
-use Rattle.small_world.specs.Forms.{remarked, renewed, newest_from, newest, forms_from, forms}
+use Rattle.small_world.specs.Forms.{remarked, renewed, newest_from, forms_from, forms}
 use Rattle.small_world.specs.Has.{Has}
 use Rattle.small_world.specs.Network.{picked}
 use Rattle.small_world.specs.Runs.{given, brought, ordered_by}
@@ -43,7 +39,7 @@ use Rattle.small_world.specs.Worlds.{SmallWorld}
 use Rattle.small_world.specs.declared.reply.Reply.{Reply}
 use Rattle.small_world.proofs.Commanding.{spelled_octets}
 use Rattle.small_world.proofs.HasLemmas.{has_every, every_last}
-use Rattle.small_world.proofs.Invariant.{IsSent, IsSpelled, IsAnswered, IsTrue, Keeps, KeepsWorld}
+use Rattle.small_world.proofs.Invariant.{IsSent, IsSpelled, IsAnswered, IsTrue, KeepsWorld}
 use Rattle.small_world.proofs.Keeping.{IsAcked, Truthful}
 use Rattle.small_world.proofs.Running.{picked_every}
 

@@ -1,5 +1,5 @@
 -- What spells a signed package in range is octets.
-use Rattle.std.proofs.Common.{◌≡◌, ℕ, ◌+◌, ◌≤◌, ◌<◌, Bool, true, false, zero, suc, List, [], ◌∷◌, ◌++◌, length, arith, Option, None, Some}
+use Rattle.std.proofs.Common.{ℕ, ◌≤◌, ◌<◌, Bool, true, false, zero, suc, List, [], ◌∷◌, ◌++◌, length, arith, Option, None, Some}
 use Rattle.std.specs.Prelude.{◌/◌, ◌%◌, ◌^◌, get_or, nat_lt, IfSome}
 use Rattle.std.specs.List.{AllPass, AllByRecursion, flat_map}
 use Rattle.std.specs.Int.Digits.{digits_of}
@@ -16,7 +16,7 @@ use Rattle.sgp_values.specs.Iccids.{IsIccid}
 use Rattle.sgp_values.specs.Ranges.{is_octet, IsEimId, IsAddress, IsKey}
 use Rattle.sgp_values.proofs.Octets.{AllPass-from_bounds, bounds_from_AllPass, iccid_octets, eid_octets, eim_id_octets, address_octets, key_octets}
 use Rattle.small_card.specs.Lists.{Every}
-use Rattle.small_card.specs.Ranges.{IsPsmo, IsEco, IsBody, IsPackage, IsSigned, greatest_counter}
+use Rattle.small_card.specs.Ranges.{IsPsmo, IsEco, IsBody, IsPackage, IsSigned}
 use Rattle.small_card.specs.declared.types.Body.{Body}
 use Rattle.small_card.specs.declared.types.Body.TheVariants.{Psmos, Ecos}
 use Rattle.small_card.specs.declared.types.Eco.{Eco}
@@ -27,7 +27,7 @@ use Rattle.small_card.specs.declared.types.Psmo.TheVariants as psmo_op
 use Rattle.small_card.specs.declared.types.Signed.{Signed}
 use Rattle.small_card.proofs.ListLemmas.{every_mono, every_append}
 use Rattle.package_codec.specs.Spelling.{iccid_content, enable_content, psmo, id_content, update_content, eco, body, package_fields, inner_package, signed_content, signed}
-use Rattle.package_codec.proofs.Bodies.{psmos_few, ecos_few, body_few}
+use Rattle.package_codec.proofs.Bodies.{psmos_few, ecos_few}
 use Rattle.package_codec.proofs.Packages.{signed_few}
 
 -- each is below 256

@@ -7,6 +7,7 @@ pub mod Texts
 pub mod Printing
 pub mod Runs
 pub mod Octets
+pub mod Growing
 pub mod Stretches
 pub mod Modems
 pub mod Taking

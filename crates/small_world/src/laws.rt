@@ -23,16 +23,18 @@ ghost use Rattle.small_card.specs.declared.types.Command.TheVariants as command;
 ghost use Rattle.small_card.specs.declared.types.Package.{Package};
 ghost use Rattle.small_card.specs.declared.types.PackageResult.{PackageResult};
 ghost use Rattle.small_world.specs.Forms.{newest, forms, IsOne};
+ghost use Rattle.small_world.specs.Growing.{HasMore};
 ghost use Rattle.small_world.specs.Has.{Has};
 ghost use Rattle.small_world.specs.Lines.{acted};
 ghost use Rattle.small_world.specs.Lossless.{NoneLost, Made, AreApart};
 ghost use Rattle.small_world.specs.Modems.{attached, enabled_lit, told_since};
+ghost use Rattle.small_world.specs.Octets.{octets_sent};
 ghost use Rattle.small_world.specs.Printing.{printed};
-ghost use Rattle.small_world.specs.Runs.{Turn, given, is_boot, steps_card, MayTurn, world_after, AreSteps};
+ghost use Rattle.small_world.specs.Runs.{Turn, given, is_boot, steps_card, MayTurn, after_turn, world_after, AreSteps};
 ghost use Rattle.small_world.specs.Stepping.{attempt, commanded, booted, IsSameCard};
 ghost use Rattle.small_world.specs.Stretches.{fates, is_cut, stretches};
 ghost use Rattle.small_world.specs.Taking.{Hands, SaysLoaded, Carries};
-ghost use Rattle.small_world.specs.Worlds.{SmallWorld, start_world};
+ghost use Rattle.small_world.specs.Worlds.{SmallWorld, enabled_after, start_world};
 
 /// The history of every run is legal, so the packages of each eIM and association are taken once, in
 /// rising counters. The unit that was in progress may happen next.
@@ -153,9 +155,18 @@ pub fn redelivered_packages_are_refused()
         → check h true bytes ≡ Err (record { code = 6; kept = kept h p.eim p.association; received = p.counter }) }
 {}
 
-/// What the modems show and count after a run is a function of those that were handed in and are still
-/// attached, and of the enabled profiles after the lines that left the card lit.
+/// What was sent stays in its place, so the octets of all messages never fall.
+pub fn messages_stay_sent()
+    ensures more { (w : SmallWorld) (t : Turn) → HasMore w (after_turn w t) }
+    ensures octets { (w : SmallWorld) (t : Turn) → octets_sent w ≤ octets_sent (after_turn w t) }
+{}
+
+/// After a line that leaves the card lit each modem shows the enabled profile, or none where none is
+/// enabled. What the modems show and count after a run is a function of those that were handed in and
+/// are still attached, and of the enabled profiles after the lines that left the card lit.
 pub fn modems_are_told_in_turn()
-    ensures { (d : Device) (handed_in : List Seen) (ts : List Turn) → (world_after (start_world d handed_in) ts).modems
+    ensures shown { (d : Device) (handed_in : List Seen) (ts : List Turn) → (world_after (start_world d handed_in) ts).lit ≡ true
+        → Every (λ m. m.0 ≡ enabled_after (world_after (start_world d handed_in) ts).history) (world_after (start_world d handed_in) ts).modems }
+    ensures told { (d : Device) (handed_in : List Seen) (ts : List Turn) → (world_after (start_world d handed_in) ts).modems
         ≡ map (told_since (enabled_lit (start_world d handed_in) ts)) (attached handed_in ts) }
 {}
