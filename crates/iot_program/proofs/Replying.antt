@@ -14,7 +14,7 @@ use Rattle.small_card.specs.declared.types.Profile.{Profile}
 use Rattle.small_card.proofs.Fresh.{fresh_valid}
 use Rattle.small_card.proofs.Validity.{full_start}
 use Rattle.small_card.specs.Fresh.{fresh}
-use Rattle.euicc_core.specs.Steps.{IsAnswered}
+use Rattle.card_steps.specs.Steps.{IsAnswered}
 use Rattle.iot_program.specs.Cards.{reply_of, after_command}
 use Rattle.iot_program.specs.Answering.{IsReplied, IsBegun}
 

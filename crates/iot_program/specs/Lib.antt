@@ -3,3 +3,4 @@ pub mod Cards
 pub mod Answering
 pub mod Starting
 pub mod Ends
+pub mod Held

@@ -8,8 +8,8 @@ ghost use Rattle.small_card.specs.declared.types.Command.TheVariants as command;
 ghost use Rattle.es10_codec.specs.Reading.{command_at};
 ghost use Rattle.iot_program.specs.Answering.{StandsFor, Replied, IsReplied, BegunBy};
 
+use crate::held::{HeldCard, StepEnd};
 use es10_codec::{read_command, write_answer};
-use euicc_core::{EuiccCard, StepEnd};
 use iot_bytes::{NoMemory, ReadError, Row};
 use profile_table::Table;
 use run_loop::{Part, PartStop};
@@ -20,7 +20,7 @@ use std::alloc::Global;
 /// A card that answers frames. There is none until the first frame personalises it.
 #[derive(Drop)]
 pub struct CardPart {
-    card: Option<EuiccCard>,
+    card: Option<HeldCard>,
 }
 
 impl CardPart {
@@ -33,21 +33,21 @@ impl CardPart {
 }
 
 // The card with this EID and these profiles.
-fn personalise(alloc: Global, eid: Eid, profiles: Row<Profile>) -> Result<EuiccCard, PartStop>
+fn personalise(alloc: Global, eid: Eid, profiles: Row<Profile>) -> Result<HeldCard, PartStop>
     requires { IsCommand (command.Personalise eid profiles) }
     ensures { BegunBy (Some (command.Personalise eid profiles)) result }
 {
     let Ok(table) = Table::of(profiles) else {
         return Err(PartStop::Unrecognised);
     };
-    match EuiccCard::personalise(alloc, eid, table) {
+    match HeldCard::personalise(alloc, eid, table) {
         Ok(card) => Ok(card),
         Err(NoMemory) => Err(PartStop::NoMemory),
     }
 }
 
 // The card that the first command personalises.
-fn begin(alloc: Global, command: Command) -> Result<EuiccCard, PartStop>
+fn begin(alloc: Global, command: Command) -> Result<HeldCard, PartStop>
     requires { IsCommand command }
     ensures { BegunBy (Some command) result }
 {
@@ -65,7 +65,7 @@ fn begin(alloc: Global, command: Command) -> Result<EuiccCard, PartStop>
 }
 
 // The card that the first frame personalises.
-fn begin_by_frame(alloc: Global, octets: &[u8]) -> Result<EuiccCard, PartStop>
+fn begin_by_frame(alloc: Global, octets: &[u8]) -> Result<HeldCard, PartStop>
     ensures { BegunBy (command_at octets.now) result }
 {
     match read_command(alloc, octets) {
@@ -76,7 +76,7 @@ fn begin_by_frame(alloc: Global, octets: &[u8]) -> Result<EuiccCard, PartStop>
 }
 
 // The reply of a card to a frame: to its command, or that it is none.
-fn reply_of(alloc: Global, card: &mut EuiccCard, octets: &[u8]) -> Result<Answer, NoMemory>
+fn reply_of(alloc: Global, card: &mut HeldCard, octets: &[u8]) -> Result<Answer, NoMemory>
     ensures replied { IfOk result (λ a. (h : History) → IsLegal h → full_of h ≡ card.old
         → IsReplied h (command_at octets.now) card.new a) }
     ensures same { OnErr result (card.new ≡ card.old) }
@@ -93,7 +93,7 @@ fn reply_of(alloc: Global, card: &mut EuiccCard, octets: &[u8]) -> Result<Answer
 }
 
 // The reply to a frame, or why it has none. The first one personalises the card.
-fn reply(alloc: Global, card: &mut Option<EuiccCard>, octets: &[u8]) -> Result<Answer, PartStop>
+fn reply(alloc: Global, card: &mut Option<HeldCard>, octets: &[u8]) -> Result<Answer, PartStop>
     ensures replied { (o : Option History) → StandsFor card.old o
         → Replied o octets.now card.new result }
     ensures range { IfOk result (λ a. IsAnswer a) }

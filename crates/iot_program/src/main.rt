@@ -2,6 +2,7 @@
 #![tactic(auto)]
 
 mod card;
+mod held;
 mod laws;
 mod run;
 #[cfg(test)]

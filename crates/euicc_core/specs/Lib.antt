@@ -1,2 +1,0 @@
-pub mod FullCards
-pub mod Steps
