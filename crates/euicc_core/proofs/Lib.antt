@@ -1,0 +1,4 @@
+pub mod Closed
+pub mod Stepped
+pub mod Opened
+pub mod Kept

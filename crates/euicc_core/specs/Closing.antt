@@ -1,0 +1,72 @@
+-- How a step is closed: what a command made of the card is written and answered.
+use Rattle.std.specs.Prelude.{◌≡◌, true, false, Option, Some, None, Result, Ok, Err}
+use Rattle.chip_port.specs.Seen.{Seen}
+use Rattle.chip_port.specs.Rules.{Untouched}
+use Rattle.chip_port.specs.Runs.{Ran}
+use Rattle.small_card.specs.Cards.{FullCard}
+use Rattle.small_card.specs.Valid.{IsValid}
+use Rattle.home_codec.specs.FullCards.{full_card}
+use Rattle.card_steps.specs.Steps.{answer_of}
+use Rattle.card_steps.specs.declared.turns.Turn.{Turn}
+use Rattle.card_steps.specs.declared.turns.Turn.TheVariants.{Same, Changed}
+use Rattle.card_store.specs.declared.ends.StageError.{StageError}
+use Rattle.card_store.specs.declared.ends.StageError.TheVariants as stage
+use Rattle.card_store.specs.Standing.{Stands, StandsForEither, IsSettled}
+use Rattle.card_store.specs.Looking.{Looks}
+use Rattle.euicc_core.specs.Answers.{Answers}
+use Rattle.euicc_core.specs.Steps.{IsOneAnswer}
+use Rattle.euicc_core.specs.declared.ends.StepEnd.{StepEnd}
+use Rattle.euicc_core.specs.declared.ends.StepEnd.TheVariants.{Answered, Lost, NoMemory}
+
+-- why it failed, if it did
+abbrev pub failure_of : {T : Type 0} → Result T StageError → Option StageError
+failure_of (Ok x) = None
+failure_of (Err e) = Some e
+
+-- a unit was staged and committed: the second card takes the place of the first
+abbrev pub Writes : FullCard → FullCard → Option StageError → Seen → Seen → Type 0
+Writes c d None old new = Ran 7000 true (StandsForEither c d) old new × IsSettled d new
+Writes c d (Some stage.Failed) old new = Ran 7000 false (StandsForEither c d) old new
+Writes c d (Some stage.NoMemory) old new = Looks 3000 old new × IsSettled c new
+
+-- it was staged, committed and answered
+abbrev pub ClosesUnit : FullCard → FullCard → Option StageError → Seen → Seen → Type 0
+ClosesUnit c d None old new = Answers (StandsForEither c d) d old new
+ClosesUnit c d (Some stage.Failed) old new = Ran 10000 false (StandsForEither c d) old new
+ClosesUnit c d (Some stage.NoMemory) old new = Looks 10000 old new × IsSettled c new
+
+-- a card that stays was answered for
+abbrev pub ClosesSame : FullCard → Option StageError → Seen → Seen → Type 0
+ClosesSame c None old new = Answers (Stands c) c old new × IsOneAnswer true old new
+ClosesSame c (Some stage.Failed) old new = Ran 10000 false (Stands c) old new × IsOneAnswer false old new
+ClosesSame c (Some stage.NoMemory) old new = Untouched (λ t. t) old new
+
+-- what a command made of a card was carried over to the chip, and answered
+abbrev pub Closes : FullCard → Turn → Option StageError → Seen → Seen → Type 0
+Closes c (Same a) failure old new = ClosesSame c failure old new
+Closes c (Changed card a) failure old new = ClosesUnit c (full_card card) failure old new
+
+-- the same answer, and the same card if it changes
+abbrev pub IsSameTurn : Turn → Turn → Type 0
+IsSameTurn (Same a) (Same b) = b ≡ a
+IsSameTurn (Same a) (Changed card b) = ⊥
+IsSameTurn (Changed card a) (Same b) = ⊥
+IsSameTurn (Changed card a) (Changed held b) = (full_card held ≡ full_card card) × (b ≡ a)
+
+-- a card that changes is valid
+abbrev pub IsNewValid : Turn → Type 0
+IsNewValid (Same a) = Unit {0}
+IsNewValid (Changed card a) = IsValid (full_card card)
+
+-- how the step ends
+abbrev pub end_of : Result Turn StageError → StepEnd
+end_of (Ok end) = Answered (answer_of end)
+end_of (Err stage.Failed) = Lost
+end_of (Err stage.NoMemory) = NoMemory
+
+-- the card that it leaves, if it is lit
+abbrev pub held_after : Option FullCard → Result Turn StageError → Option FullCard
+held_after before (Ok (Same a)) = before
+held_after before (Ok (Changed card a)) = Some (full_card card)
+held_after before (Err stage.Failed) = None
+held_after before (Err stage.NoMemory) = before

@@ -1,0 +1,5 @@
+pub mod Answers
+pub mod Steps
+pub mod Closing
+pub mod Openings
+pub mod Laws

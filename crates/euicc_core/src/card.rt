@@ -1,0 +1,156 @@
+//! The card.
+
+ghost use Rattle.std.specs.Prelude.{◌≡◌, ◌↔◌, None, Some, IfOk, MatchOption, IfSome};
+ghost use Rattle.chip_port.specs.Rules.{IfTold};
+ghost use Rattle.small_card.specs.Fresh.{fresh};
+ghost use Rattle.small_card.specs.Ranges.{IsCommand};
+ghost use Rattle.small_card.specs.Valid.{IsValid};
+ghost use Rattle.home_codec.specs.FullCards.{full_card};
+ghost use Rattle.card_store.specs.Looking.{HasCauseOf};
+ghost use Rattle.euicc_core.specs.Steps.{IsLitOn, Steps, HasCauseOfStep, ChipSteps, IsInRange};
+ghost use Rattle.euicc_core.specs.Closing.{IsNewValid, end_of, held_after};
+ghost use Rattle.euicc_core.specs.Openings.{Opens, Personalises, of_load};
+
+use crate::answering::carry_out;
+use crate::ends::{OpenError, StepEnd};
+use card_steps::Turn;
+use card_store::{Card, LoadEnd, MakeError, StageError, format, load};
+use chip_port::Chip;
+use profile_table::Table;
+use sgp_values::Eid;
+use small_card::Command;
+use std::alloc::Global;
+use std::marker::Model;
+
+/// A card that was personalised or powered up. It is lit until a call of its chip fails in a step,
+/// and dark from then on. Contracts see it as its full card, which is valid, or as none.
+#[derive(Debug, Drop)]
+pub struct EuiccCard {
+    card: Option<Card>,
+}
+
+impl Model for EuiccCard {
+    ghost use Rattle.std.specs.Prelude.{Option, option_map, IfSome};
+    ghost use Rattle.small_card.specs.Cards.{FullCard};
+    ghost use Rattle.small_card.specs.Valid.{IsValid};
+
+    ghost Value = { Option FullCard };
+
+    ghost use Rattle.home_codec.specs.FullCards.{full_card};
+
+    ghost view = { λ e. option_map full_card e.card };
+
+    ghost invariant = { λ e. IfSome e.card (λ card. IsValid (full_card card)) };
+}
+
+fn of_load(end: LoadEnd) -> OpenError
+    ensures { result ≡ of_load end }
+{
+    match end {
+        LoadEnd::Failed => OpenError::Failed,
+        LoadEnd::Unrecognised => OpenError::Unrecognised,
+        LoadEnd::NoMemory => OpenError::NoMemory,
+    }
+}
+
+impl EuiccCard {
+    /// Makes a card with these profiles, no eIM and no result, whatever stood on the chip. The answer
+    /// is the last call of the chip. All memory is taken before the first call.
+    ///
+    /// A cut on the way leaves what stood there but for its magic, no card, or the new one.
+    pub fn personalise<C: Chip>(
+        alloc: Global,
+        chip: &mut C,
+        eid: Eid,
+        profiles: Table,
+    ) -> Result<EuiccCard, MakeError>
+        ensures cause { HasCauseOf MakeError.Failed (C.sees chip.old) (C.sees chip.new) result }
+        ensures fresh { IfOk result (λ card. card ≡ Some (fresh eid profiles)) }
+        ensures settled { IfOk result
+            (λ card. IfTold (C.sees chip.new) (IsLitOn card (C.sees chip.new))) }
+        ensures chip { IfTold (C.sees chip.old)
+            (Personalises (fresh eid profiles) result (C.sees chip.old) (C.sees chip.new)) }
+    {
+        match format(alloc, chip, eid, profiles) {
+            Ok(card) => match chip.answer() {
+                Ok(()) => Ok(EuiccCard { card: Some(card) }),
+                Err(_failed) => Err(MakeError::Failed),
+            },
+            Err(error) => Err(error),
+        }
+    }
+
+    /// Recovers the chip, reads the card that stands on it, and answers to reset as the last call of
+    /// the chip.
+    ///
+    /// It may itself be cut, any number of times: what a cut leaves still stands for the card.
+    ///
+    /// # Errors
+    /// `Unrecognised` where the chip stands for no card.
+    pub fn power_up<C: Chip>(alloc: Global, chip: &mut C) -> Result<EuiccCard, OpenError>
+        ensures cause { HasCauseOf OpenError.Failed (C.sees chip.old) (C.sees chip.new) result }
+        ensures lit { IfOk result (λ card. MatchOption card ⊥ (λ parts. IsValid parts)) }
+        ensures settled { IfOk result
+            (λ card. IfTold (C.sees chip.new) (IsLitOn card (C.sees chip.new))) }
+        ensures chip { IfTold (C.sees chip.old)
+            (Opens result (C.sees chip.old) (C.sees chip.new)) }
+    {
+        match load(alloc, chip) {
+            Ok(card) => match chip.answer() {
+                Ok(()) => Ok(EuiccCard { card: Some(card) }),
+                Err(_failed) => Err(OpenError::Failed),
+            },
+            Err(end) => Err(of_load(end)),
+        }
+    }
+
+    /// Carries out a command, writes what it changes as one unit, and answers it as the last call of
+    /// the chip. A refused command and a listing make no other call. All memory of a unit and of its
+    /// answer is taken before anything is written.
+    pub fn step<C: Chip>(&mut self, alloc: Global, chip: &mut C, command: Command) -> StepEnd
+        requires settled { IfTold (C.sees chip.old) (IsLitOn self.old (C.sees chip.old)) }
+        ensures cause { HasCauseOfStep result (C.sees chip.old) (C.sees chip.new) }
+        ensures dark { (result ≡ StepEnd.Dark) ↔ (self.old ≡ None) }
+        ensures unlit { self.old ≡ None → (self.new ≡ None) × (chip.new ≡ chip.old) }
+        ensures steps { Steps command self.old self.new result }
+        ensures range { IsCommand command → IsInRange result }
+        ensures settled { IfTold (C.sees chip.new) (IsLitOn self.new (C.sees chip.new)) }
+        ensures chip { IfTold (C.sees chip.old)
+            (ChipSteps command self.old result (C.sees chip.old) (C.sees chip.new)) }
+    {
+        let carried = match &self.card {
+            Some(card) => carry_out(alloc, chip, card, command),
+            None => return StepEnd::Dark,
+        };
+        self.take_over(carried)
+    }
+
+    // Takes over what is left of the card, and tells how the step ends.
+    fn take_over(&mut self, carried: Result<Turn, StageError>) -> StepEnd
+        requires valid { IfOk carried IsNewValid }
+        ensures card { self.new ≡ held_after self.old carried }
+        ensures end { result ≡ end_of carried }
+    {
+        match carried {
+            Ok(Turn::Same(answer)) => StepEnd::Answered(answer),
+            Ok(Turn::Changed(card, answer)) => {
+                self.card = Some(card);
+                StepEnd::Answered(answer)
+            }
+            Err(StageError::Failed) => {
+                self.card = None;
+                StepEnd::Lost
+            }
+            Err(StageError::NoMemory) => StepEnd::NoMemory,
+        }
+    }
+
+    /// The parts of the card, none where it is dark. It takes no memory.
+    pub fn card(&self) -> Option<&Card>
+        ensures parts { MatchOption result (self.now ≡ None)
+            (λ parts. self.now ≡ Some (full_card parts.now)) }
+        ensures valid { IfSome self.now IsValid }
+    {
+        self.card.as_ref()
+    }
+}
