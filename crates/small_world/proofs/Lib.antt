@@ -24,3 +24,4 @@ pub mod Ranging
 pub mod Planning
 pub mod Showing
 pub mod Growing
+pub mod Reached

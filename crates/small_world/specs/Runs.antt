@@ -5,10 +5,12 @@ use Rattle.small_card.specs.Lists.{Every}
 use Rattle.small_card.specs.declared.types.Command.{Command}
 use Rattle.small_card.specs.declared.types.Command.TheVariants as command
 use Rattle.esipa_codec.specs.Assistant.{IpaEvent, push, message, probe, act_of}
-use Rattle.iot_schedule.specs.Ranges.{IsStep}
+use Rattle.modem_bank.specs.Modems.{Seen}
+use Rattle.iot_schedule.specs.Ranges.{IsDevice, IsStep}
+use Rattle.iot_schedule.specs.declared.types.Device.{Device}
 use Rattle.iot_schedule.specs.declared.types.Line.{Line}
 use Rattle.iot_schedule.specs.declared.types.Line.TheVariants as line
-use Rattle.small_world.specs.Worlds.{SmallWorld}
+use Rattle.small_world.specs.Worlds.{SmallWorld, start_world}
 use Rattle.small_world.specs.Network.{picked}
 use Rattle.small_world.specs.Stepping.{attempt}
 use Rattle.small_world.specs.Acting.{command_of}
@@ -97,6 +99,15 @@ texts_back start (t ∷ ts) = printed (world_after start ts) t.line t.lost ∷ t
 -- Each line of these turns is one that can be read.
 unfoldable pub AreSteps : List Turn → Type 0
 AreSteps ts = Every (λ t. IsStep t.line) ts
+
+-- A world that a run comes to: from a device in range, over lines that can be read.
+pub record IsReached (w : SmallWorld) : Type 0 where
+  pub device : Device
+  pub handed_in : List Seen
+  pub turns : List Turn
+  pub fits : IsDevice device
+  pub read : AreSteps turns
+  pub comes : w ≡ world_after (start_world device handed_in) turns
 
 -- These lines, in their order, print these texts and lead from one world to the other.
 pub record IsRunOver (start : SmallWorld) (lines : List Line) (texts : List (List ℕ)) (end : SmallWorld) : Type 0 where

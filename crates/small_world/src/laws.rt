@@ -1,6 +1,6 @@
-//! What holds of every run, as functions that do nothing: the clauses are the laws. A run begins at
-//! the world of a device that was personalised, its lines are ones that can be read, and nothing is
-//! said of what was lost, what a boot took, or in which order messages came.
+//! What holds of every run, as functions that do nothing: the clauses are the laws. They speak of the
+//! worlds that runs come to: from a device in range, over lines that can be read, whatever was lost,
+//! whatever a boot took, and in whatever order messages came.
 ghost use Rattle.std.specs.Prelude.{◌≡◌, ◌≢◌, ◌≤◌, ◌↔◌, Bool, true, false, List, [], ◌∷◌, ℕ, Some, None, Ok, Err, IsOk, IsErr, IfSome, codes, length, map};
 ghost use Rattle.card_store.specs.Holding.{Mark};
 ghost use Rattle.card_store.specs.Standing.{Stands};
@@ -30,21 +30,25 @@ ghost use Rattle.small_world.specs.Lossless.{NoneLost, Made, AreApart};
 ghost use Rattle.small_world.specs.Modems.{attached, enabled_lit, told_since};
 ghost use Rattle.small_world.specs.Octets.{octets_sent};
 ghost use Rattle.small_world.specs.Printing.{printed};
-ghost use Rattle.small_world.specs.Runs.{Turn, given, is_boot, steps_card, MayTurn, after_turn, world_after, AreSteps};
+ghost use Rattle.small_world.specs.Runs.{Turn, given, is_boot, steps_card, MayTurn, after_turn, world_after, IsReached};
 ghost use Rattle.small_world.specs.Stepping.{attempt, commanded, booted, IsSameCard};
 ghost use Rattle.small_world.specs.Stretches.{fates, is_cut, stretches};
 ghost use Rattle.small_world.specs.Taking.{Hands, SaysLoaded, Carries};
 ghost use Rattle.small_world.specs.Worlds.{SmallWorld, enabled_after, start_world};
 
+/// A run begins at the world of a device that was personalised, and goes on with any line that can be
+/// read, whatever is lost or taken.
+pub fn runs_go_on()
+    ensures begins { (d : Device) (handed_in : List Seen) → IsDevice d → IsReached (start_world d handed_in) }
+    ensures goes_on { (w : SmallWorld) (t : Turn) → IsReached w → IsStep t.line → IsReached (after_turn w t) }
+{}
+
 /// The history of every run is legal, so the packages of each eIM and association are taken once, in
 /// rising counters. The unit that was in progress may happen next.
 pub fn histories_are_legal()
-    ensures legal { (d : Device) (handed_in : List Seen) (ts : List Turn) → IsDevice d → AreSteps ts
-        → IsLegal (world_after (start_world d handed_in) ts).history }
-    ensures once { (d : Device) (handed_in : List Seen) (ts : List Turn) → IsDevice d → AreSteps ts
-        → IsOnce (world_after (start_world d handed_in) ts).history }
-    ensures attempt { (d : Device) (handed_in : List Seen) (ts : List Turn) → IsDevice d → AreSteps ts
-        → IfSome (attempt (world_after (start_world d handed_in) ts).marks) (May (world_after (start_world d handed_in) ts).history) }
+    ensures legal { (w : SmallWorld) → IsReached w → IsLegal w.history }
+    ensures once { (w : SmallWorld) → IsReached w → IsOnce w.history }
+    ensures attempt { (w : SmallWorld) → IsReached w → IfSome (attempt w.marks) (May w.history) }
 {}
 
 /// A form's number is that of no other form, so an acknowledgement of a number names one form.
@@ -65,21 +69,17 @@ pub fn newest_forms_lead()
 /// newest form by an eIM of its identifier. And each record is a form that its result had; no two eIMs
 /// have one identifier.
 pub fn no_result_is_lost()
-    ensures lost { (d : Device) (handed_in : List Seen) (ts : List Turn) → IsDevice d → AreSteps ts
-        → NoneLost (world_after (start_world d handed_in) ts).history (world_after (start_world d handed_in) ts).eims }
-    ensures made { (d : Device) (handed_in : List Seen) (ts : List Turn) → IsDevice d → AreSteps ts
-        → Made (world_after (start_world d handed_in) ts).history (world_after (start_world d handed_in) ts).eims }
-    ensures apart { (d : Device) (handed_in : List Seen) (ts : List Turn) → IsDevice d → AreSteps ts
-        → AreApart (world_after (start_world d handed_in) ts).eims }
+    ensures lost { (w : SmallWorld) → IsReached w → NoneLost w.history w.eims }
+    ensures made { (w : SmallWorld) → IsReached w → Made w.history w.eims }
+    ensures apart { (w : SmallWorld) → IsReached w → AreApart w.eims }
 {}
 
 /// The newest mark is of the whole history, and nothing is in progress on a lit card. The stretches of
 /// a run are as many as its marks.
 pub fn marks_tell_the_history()
-    ensures newest { (d : Device) (handed_in : List Seen) (ts : List Turn) (m : Mark) (older : List Mark)
-        → (world_after (start_world d handed_in) ts).marks ≡ m ∷ older → m.units ≡ length (world_after (start_world d handed_in) ts).history.units }
-    ensures rests { (d : Device) (handed_in : List Seen) (ts : List Turn)
-        → (world_after (start_world d handed_in) ts).lit ≡ true → attempt (world_after (start_world d handed_in) ts).marks ≡ None }
+    ensures newest { (w : SmallWorld) (m : Mark) (older : List Mark) → IsReached w → w.marks ≡ m ∷ older
+        → m.units ≡ length w.history.units }
+    ensures rests { (w : SmallWorld) → IsReached w → w.lit ≡ true → attempt w.marks ≡ None }
     ensures stretches { (d : Device) (handed_in : List Seen) (ts : List Turn)
         → length (stretches (fates (start_world d handed_in) ts)) ≡ length (world_after (start_world d handed_in) ts).marks }
 {}
@@ -88,18 +88,13 @@ pub fn marks_tell_the_history()
 /// cards differ, also in their next numbers or their count of pending results, and no image of a chip
 /// stands for both. A boot of a lit card changes no unit.
 pub fn boots_show_one_card()
-    ensures full { (d : Device) (handed_in : List Seen) (ts : List Turn) (u : CardUnit) → IsDevice d → AreSteps ts
-        → attempt (world_after (start_world d handed_in) ts).marks ≡ Some u
-        → full_of (with_unit (world_after (start_world d handed_in) ts).history u) ≢ full_of (world_after (start_world d handed_in) ts).history }
-    ensures numbers { (d : Device) (handed_in : List Seen) (ts : List Turn) (u : CardUnit) → IsDevice d → AreSteps ts
-        → attempt (world_after (start_world d handed_in) ts).marks ≡ Some u
-        → ¬ AreAlikeInNumbers (card_of (with_unit (world_after (start_world d handed_in) ts).history u)) (card_of (world_after (start_world d handed_in) ts).history) }
-    ensures image { (d : Device) (handed_in : List Seen) (ts : List Turn) (u : CardUnit) (image : List ℕ) → IsDevice d → AreSteps ts
-        → attempt (world_after (start_world d handed_in) ts).marks ≡ Some u
-        → Stands (full_of (with_unit (world_after (start_world d handed_in) ts).history u)) image
-        → ¬ Stands (full_of (world_after (start_world d handed_in) ts).history) image }
-    ensures lit { (d : Device) (handed_in : List Seen) (ts : List Turn) (lost taken : Bool) → (world_after (start_world d handed_in) ts).lit ≡ true
-        → (booted lost taken (world_after (start_world d handed_in) ts)).history ≡ (world_after (start_world d handed_in) ts).history }
+    ensures full { (w : SmallWorld) (u : CardUnit) → IsReached w → attempt w.marks ≡ Some u
+        → full_of (with_unit w.history u) ≢ full_of w.history }
+    ensures numbers { (w : SmallWorld) (u : CardUnit) → IsReached w → attempt w.marks ≡ Some u
+        → ¬ AreAlikeInNumbers (card_of (with_unit w.history u)) (card_of w.history) }
+    ensures image { (w : SmallWorld) (u : CardUnit) (image : List ℕ) → IsReached w → attempt w.marks ≡ Some u
+        → Stands (full_of (with_unit w.history u)) image → ¬ Stands (full_of w.history) image }
+    ensures lit { (w : SmallWorld) (lost taken : Bool) → IsReached w → w.lit ≡ true → (booted lost taken w).history ≡ w.history }
 {}
 
 /// Each line can be taken in each world, so no line ends a run. One that doesn't step the card leaves
@@ -123,12 +118,10 @@ pub fn commands_reach_the_card()
 
 /// Every message that was sent is in its ranges, and so is every command that a line gives to the card.
 pub fn messages_are_in_range()
-    ensures up { (d : Device) (handed_in : List Seen) (ts : List Turn) → IsDevice d → AreSteps ts
-        → Every (λ p. IsToEim p.message) (world_after (start_world d handed_in) ts).to_eims }
-    ensures down { (d : Device) (handed_in : List Seen) (ts : List Turn) → IsDevice d → AreSteps ts
-        → Every (λ r. IsToIpa r.message) (world_after (start_world d handed_in) ts).to_ipa }
-    ensures commands { (d : Device) (handed_in : List Seen) (ts : List Turn) (l : Line) (c : Command) → IsDevice d → AreSteps ts → IsStep l
-        → given (world_after (start_world d handed_in) ts) l ≡ Some c → IsCommand c }
+    ensures up { (w : SmallWorld) → IsReached w → Every (λ p. IsToEim p.message) w.to_eims }
+    ensures down { (w : SmallWorld) → IsReached w → Every (λ r. IsToIpa r.message) w.to_ipa }
+    ensures commands { (w : SmallWorld) (l : Line) (c : Command) → IsReached w → IsStep l
+        → given w l ≡ Some c → IsCommand c }
 {}
 
 /// A package that a line hands to a lit card prints `loaded`, where the line isn't lost, exactly where
@@ -165,8 +158,7 @@ pub fn messages_stay_sent()
 /// enabled. What the modems show and count after a run is a function of those that were handed in and
 /// are still attached, and of the enabled profiles after the lines that left the card lit.
 pub fn modems_are_told_in_turn()
-    ensures shown { (d : Device) (handed_in : List Seen) (ts : List Turn) → (world_after (start_world d handed_in) ts).lit ≡ true
-        → Every (λ m. m.0 ≡ enabled_after (world_after (start_world d handed_in) ts).history) (world_after (start_world d handed_in) ts).modems }
+    ensures shown { (w : SmallWorld) → IsReached w → w.lit ≡ true → Every (λ m. m.0 ≡ enabled_after w.history) w.modems }
     ensures told { (d : Device) (handed_in : List Seen) (ts : List Turn) → (world_after (start_world d handed_in) ts).modems
         ≡ map (told_since (enabled_lit (start_world d handed_in) ts)) (attached handed_in ts) }
 {}

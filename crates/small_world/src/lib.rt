@@ -11,7 +11,7 @@ pub use laws::{
     boots_show_one_card, commands_reach_the_card, histories_are_legal, lines_leave_choices,
     marks_tell_the_history, messages_are_in_range, messages_stay_sent, modems_are_told_in_turn,
     newest_forms_lead, no_result_is_lost, numbers_name_forms,
-    packages_are_taken_where_the_checks_accept, redelivered_packages_are_refused,
+    packages_are_taken_where_the_checks_accept, redelivered_packages_are_refused, runs_go_on,
 };
 pub use reply::Reply;
 pub use worked::{

@@ -1,29 +1,16 @@
-use Rattle.small_world.specs.Runs.{world_after}
-use Rattle.small_world.specs.Stepping.{attempt}
-use Rattle.small_world.specs.Worlds.{start_world}
-use Rattle.small_world.proofs.Choosing.{attempt_may, with_differs, with_numbers, with_image}
+use Rattle.small_world.proofs.Choosing.{with_differs, with_numbers, with_image}
 use Rattle.small_world.proofs.Leaving.{lit_boot}
-use Rattle.small_world.proofs.Marking.{run_marked}
-use Rattle.small_world.proofs.Running.{run_keeps, run_tried}
+use Rattle.small_world.proofs.Reached.{reached_keeps, reached_may, reached_marked}
 use Rattle.small_world.proofs.laws.boots_show_one_card.Goals as goal
 
 pub returns-clause-full : goal.returns-clause-full
-returns-clause-full c = λ d handed_in ts u i s e.
-    let w = world_after (start_world d handed_in) ts in
-    let k = run_keeps d handed_in ts i s in
-    with_differs w.history u k.legal (attempt_may w.history (attempt w.marks) u e (run_tried w k))
+returns-clause-full c = λ w u r e. with_differs w.history u (reached_keeps w r).legal (reached_may w u r e)
 
 pub returns-clause-numbers : goal.returns-clause-numbers
-returns-clause-numbers c = λ d handed_in ts u i s e.
-    let w = world_after (start_world d handed_in) ts in
-    let k = run_keeps d handed_in ts i s in
-    with_numbers w.history u k.legal (attempt_may w.history (attempt w.marks) u e (run_tried w k))
+returns-clause-numbers c = λ w u r e. with_numbers w.history u (reached_keeps w r).legal (reached_may w u r e)
 
 pub returns-clause-image : goal.returns-clause-image
-returns-clause-image c = λ d handed_in ts u image i s e.
-    let w = world_after (start_world d handed_in) ts in
-    let k = run_keeps d handed_in ts i s in
-    with_image w.history u image k.legal (attempt_may w.history (attempt w.marks) u e (run_tried w k))
+returns-clause-image c = λ w u image r e. with_image w.history u image (reached_keeps w r).legal (reached_may w u r e)
 
 pub returns-clause-lit : goal.returns-clause-lit
-returns-clause-lit c = λ d handed_in ts lost taken l. lit_boot (world_after (start_world d handed_in) ts) lost taken ((run_marked d handed_in ts).rests l)
+returns-clause-lit c = λ w lost taken r l. lit_boot w lost taken ((reached_marked w r).rests l)

@@ -1,14 +1,12 @@
-use Rattle.small_world.specs.Runs.{world_after}
-use Rattle.small_world.specs.Worlds.{start_world}
 use Rattle.small_world.proofs.Ranging.{ups_fit, downs_fit, command_fits}
-use Rattle.small_world.proofs.Running.{run_keeps}
+use Rattle.small_world.proofs.Reached.{reached_keeps}
 use Rattle.small_world.proofs.laws.messages_are_in_range.Goals as goal
 
 pub returns-clause-up : goal.returns-clause-up
-returns-clause-up c = λ d handed_in ts i s. ups_fit (world_after (start_world d handed_in) ts) (run_keeps d handed_in ts i s)
+returns-clause-up c = λ w r. ups_fit w (reached_keeps w r)
 
 pub returns-clause-down : goal.returns-clause-down
-returns-clause-down c = λ d handed_in ts i s. downs_fit (world_after (start_world d handed_in) ts) (run_keeps d handed_in ts i s)
+returns-clause-down c = λ w r. downs_fit w (reached_keeps w r)
 
 pub returns-clause-commands : goal.returns-clause-commands
-returns-clause-commands c = λ d handed_in ts l x i s k e. command_fits (world_after (start_world d handed_in) ts) l x (run_keeps d handed_in ts i s) k e
+returns-clause-commands c = λ w l x r k e. command_fits w l x (reached_keeps w r) k e
