@@ -1,12 +1,13 @@
 -- The words of the command line.
-use Rattle.std.specs.Prelude.{ℕ, ◌==◌, ◌&&◌, not, List, [], ◌∷◌, length, codes, if◌then◌else◌, Option, Some, None, Result, Ok, Err}
+use Rattle.std.specs.Prelude.{ℕ, ◌≤◌, ◌==◌, ◌&&◌, not, List, [], ◌∷◌, length, codes, if◌then◌else◌, Option, Some, None, Result, Ok, Err}
 use Rattle.hex.specs.Hex.{decode_sized}
 use Rattle.hex.specs.declared.error.FromHexError.{FromHexError}
 use Rattle.sgp_der.specs.Fields.{◌>>=◌}
 use Rattle.sgp_values.specs.Reading.{eid_of, eim_id_of}
 use Rattle.small_card.specs.Lists.{same}
+use Rattle.iot_schedule.specs.Tokens.{number_of}
 use Rattle.iot_program.specs.declared.words.Form.{Form}
-use Rattle.iot_program.specs.declared.words.Form.TheVariants.{Card, Eim, Ipa}
+use Rattle.iot_program.specs.declared.words.Form.TheVariants.{Card, Eim, Ipa, Check, Gen}
 
 abbrev pub octets_of : Result (List ℕ) FromHexError → Option (List ℕ)
 octets_of (Ok octets) = Some octets
@@ -31,11 +32,32 @@ eim_form id eid = do
   card ← eid_word eid
   Some (Eim eim card)
 
--- the form that the words have: `card PATH`, where PATH is any text but the empty one, `ipa EID` or `eim ID EID`
+-- a start below 2^31, and 1 to 100,000 lines, as decimals without needless zeros
+abbrev pub gen_form : List ℕ → List ℕ → Option Form
+gen_form first count = do
+  start ← number_of 0 2147483647 first
+  lines ← number_of 1 100000 count
+  Some (Gen start lines)
+
+-- the form of three words
+abbrev pub form_of_three : List ℕ → List ℕ → List ℕ → Option Form
+form_of_three word second third =
+    if same word (codes "eim") then eim_form second third
+    else if same word (codes "gen") then gen_form second third
+    else None
+
+-- the start of a generator is below 2^31
+abbrev pub IsForm : Form → Type 0
+IsForm (Gen start lines) = start ≤ 2147483647
+IsForm other = Unit {0}
+
+-- the form that the words have: `card PATH`, where PATH is any text but the empty one, `ipa EID`,
+-- `eim ID EID`, `check` or `gen START LINES`
 unfoldable pub form_of : List (List ℕ) → Option Form
+form_of (word ∷ []) = if same word (codes "check") then Some Check else None
 form_of (word ∷ other ∷ []) =
     if same word (codes "card") && not (length other == 0) then Some Card
     else if same word (codes "ipa") then ipa_form other
     else None
-form_of (word ∷ id ∷ eid ∷ []) = if same word (codes "eim") then eim_form id eid else None
+form_of (word ∷ second ∷ third ∷ []) = form_of_three word second third
 form_of words = None

@@ -4,8 +4,9 @@ ghost use Rattle.std.specs.Prelude.{◌≡◌, ◌≢◌, ◌↔◌, ◌⊎◌, 
 ghost use Rattle.iot_bytes.specs.Causes.{Rose};
 ghost use Rattle.run_loop.specs.Edges.{edge, HasCauses};
 ghost use Rattle.run_loop.specs.Frames.{framed};
-ghost use Rattle.iot_program.specs.Words.{form_of};
-ghost use Rattle.iot_program.specs.Ends.{AreHandled, Does, HandledBy, Served, StopsBy, StopsWith};
+ghost use Rattle.iot_program.specs.Words.{form_of, IsForm};
+ghost use Rattle.iot_program.specs.Ends.{AreHandled, DecidesBy, Does, HandledBy, Served, StopsBy};
+ghost use Rattle.iot_program.specs.Ends.{StopsWith};
 ghost use Rattle.iot_program.specs.declared.words.Form.{Form};
 
 use crate::card::CardPart;
@@ -13,6 +14,7 @@ use crate::words::{Form, form_of_words};
 use iot_bytes::{Sink, Source};
 use lone_parts::{run_eim, run_ipa};
 use run_loop::serve;
+use schedule_forms::{run_check, run_gen};
 use std::alloc::Global;
 
 /// The status of a faulty command line.
@@ -45,6 +47,7 @@ fn run_card<S: Source, K: Sink>(alloc: Global, source: &mut S, sink: &mut K) -> 
 
 // Does what a form of words asks for.
 fn run_form<S: Source, K: Sink>(alloc: Global, form: Form, source: &mut S, sink: &mut K) -> u8
+    requires { IsForm form }
     ensures does { Does (Some form) result
         (edge (S.rest source.old) (S.faults source.old) (K.sent sink.old) (K.faults sink.old))
         (edge (S.rest source.new) (S.faults source.new) (K.sent sink.new) (K.faults sink.new)) }
@@ -63,11 +66,18 @@ fn run_form<S: Source, K: Sink>(alloc: Global, form: Form, source: &mut S, sink:
         → ¬ Rose (S.faults source.old) (S.faults source.new)
         → ¬ Rose (K.faults sink.old) (K.faults sink.new)
         → StopsBy form fs tail result }
+    ensures checks { (input : List ℕ) → form ≡ Form.Check → S.rest source.old ≡ Some input
+        → DecidesBy input result
+        (edge (S.rest source.old) (S.faults source.old) (K.sent sink.old) (K.faults sink.old))
+        (edge (S.rest source.new) (S.faults source.new) (K.sent sink.new) (K.faults sink.new)) }
+    ensures unread { (start lines : ℕ) → form ≡ Form.Gen start lines → source.new ≡ source.old }
 {
     match form {
         Form::Card => run_card(alloc, source, sink),
         Form::Eim { id, eid } => run_eim(alloc, id, eid, source, sink),
         Form::Ipa { eid } => run_ipa(alloc, eid, source, sink),
+        Form::Check => run_check(alloc, source, sink),
+        Form::Gen { start, lines } => run_gen(alloc, start, lines, sink),
     }
 }
 
@@ -104,6 +114,15 @@ pub fn run<S: Source, K: Sink>(alloc: Global, words: &[String], source: &mut S, 
         → ¬ Rose (S.faults source.old) (S.faults source.new)
         → ¬ Rose (K.faults sink.old) (K.faults sink.new)
         → StopsBy form fs tail result }
+    // Of `check`, the lines of an input that is told decide the status and what is sent.
+    ensures checks { (input : List ℕ) → form_of (map string_bytes words.now) ≡ Some Form.Check
+        → S.rest source.old ≡ Some input → DecidesBy input result
+        (edge (S.rest source.old) (S.faults source.old) (K.sent sink.old) (K.faults sink.old))
+        (edge (S.rest source.new) (S.faults source.new) (K.sent sink.new) (K.faults sink.new)) }
+    // `gen` reads nothing.
+    ensures unread { (start lines : ℕ)
+        → form_of (map string_bytes words.now) ≡ Some (Form.Gen start lines)
+        → source.new ≡ source.old }
 {
     match form_of_words(words) {
         Some(form) => run_form(alloc, form, source, sink),

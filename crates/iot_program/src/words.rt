@@ -1,8 +1,14 @@
-ghost use Rattle.std.specs.Prelude.{◌≡◌, map, string_bytes};
-ghost use Rattle.iot_program.specs.Words.{eid_word, eim_form, form_of, ipa_form};
+ghost use Rattle.std.specs.Prelude.{◌≡◌, ◌≤◌, map, string_bytes, IfSome};
+ghost use Rattle.iot_schedule.specs.Tokens.{number_of};
+ghost use Rattle.iot_program.specs.Words.{eid_word, eim_form, form_of, gen_form, ipa_form, IsForm};
 
 use hex::FromHex;
+use iot_bytes::read_decimal;
+use line_loop::MOST_LINES;
 use sgp_values::{Eid, EimId};
+
+/// The greatest start of the generator.
+const GREATEST_START: u32 = 0x7fff_ffff;
 
 /// What the program is asked to do.
 #[derive(Clone, Copy, Debug, PartialEq, Eq)]
@@ -13,6 +19,10 @@ pub enum Form {
     Eim { id: EimId, eid: Eid },
     /// `ipa EID`: one assistant for the card with this EID, over framed inputs.
     Ipa { eid: Eid },
+    /// `check`: a schedule is checked.
+    Check,
+    /// `gen START LINES`: a schedule of so many lines is generated from a start.
+    Gen { start: u32, lines: u32 },
 }
 
 // The EID that 32 hexadecimal digits spell. It takes no memory.
@@ -38,15 +48,43 @@ fn eim(id: &str, eid: &str) -> Option<Form>
     Some(Form::Eim { id, eid })
 }
 
+// The number from the least to the greatest that a word spells. It takes no memory.
+#[tactic(auto, using(iot_schedule::proofs::Deciding::decimal_read), unfolding(iot_schedule::specs::Tokens::number_of))]
+fn number_of_word(word: &str, least: u32, greatest: u32) -> Option<u32>
+    ensures value { result ≡ number_of least greatest word.now }
+    ensures range { IfSome result (λ n. n ≤ greatest) }
+{
+    let n = read_decimal(word.as_bytes())?;
+    if u64::from(least) <= n && n <= u64::from(greatest) {
+        Some(n as u32)
+    } else {
+        None
+    }
+}
+
+fn generator(start: &str, lines: &str) -> Option<Form>
+    ensures form { result ≡ gen_form start.now lines.now }
+    ensures range { IfSome result IsForm }
+{
+    let start = number_of_word(start, 0, GREATEST_START)?;
+    let lines = number_of_word(lines, 1, MOST_LINES)?;
+    Some(Form::Gen { start, lines })
+}
+
 /// The form of the words behind the program's name. No word needs memory.
 #[tactic(auto, unfolding(crate::specs::Words::form_of))]
 pub fn form_of_words(words: &[String]) -> Option<Form>
-    ensures { result ≡ form_of (map string_bytes words.now) }
+    ensures form { result ≡ form_of (map string_bytes words.now) }
+    ensures range { IfSome result IsForm }
 {
     match words {
+        [word] if word.as_str() == "check" => Some(Form::Check),
         [word, path] if word.as_str() == "card" && !path.is_empty() => Some(Form::Card),
         [word, eid] if word.as_str() == "ipa" => ipa(eid.as_str()),
         [word, id, eid] if word.as_str() == "eim" => eim(id.as_str(), eid.as_str()),
+        [word, start, lines] if word.as_str() == "gen" => {
+            generator(start.as_str(), lines.as_str())
+        }
         _ => None,
     }
 }

@@ -144,7 +144,8 @@ head_in number not_first =
     (reads _ (line.Initial (codes "e1") [] []) (e1, record { few = omega arith; each = AllPass-from_list_all is_address_octet [] refl }, record { few = omega arith; each = AllPass-from_list_all is_octet [] refl }) refl)
     (reads _ (line.Bind (codes "e1") 1 0) (e1, record { some = omega arith; fits = omega arith }, omega arith) bind_text)))
 
-step_in : (start number : ℕ) → number ≢ 1 → IsStepLine (made_line start number)
+-- a line behind the first one
+pub step_in : (start number : ℕ) → number ≢ 1 → IsStepLine (made_line start number)
 unfolding made_line line_text
 step_in start number not_first = either IsStepLine (nat_le number 4) _ _ (head_in number not_first) (made_in (next_state (state_before start number)))
 
@@ -173,7 +174,8 @@ device_fits = record {
   };
 }
 
-device_in : (start : ℕ) → device_at (made_line start 1) ≢ None
+-- the first line
+pub device_in : (start : ℕ) → device_at (made_line start 1) ≢ None
 unfolding made_line line_text head_text device_text device_words profile_text spaced encode_with the_device profile iccid
 device_in start = λ none.
     let spelled : device_text the_device ≡ made_line start 1 = refl in

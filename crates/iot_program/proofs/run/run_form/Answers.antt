@@ -1,4 +1,4 @@
-use Rattle.std.proofs.Common.{sym, subst}
+use Rattle.std.proofs.Common.{arith, inl, inr, refl, sym, subst}
 use Rattle.iot_program.specs.declared.words.Form.{Form}
 use Rattle.iot_program.specs.Ends.{HandledBy, StopsBy}
 use Rattle.iot_program.proofs.Serving.{does_of}
@@ -36,3 +36,53 @@ returns-in-Eim-clause-stops g c = λ input fs tail told is handled no_read no_wr
 pub returns-in-Ipa-clause-stops : goal.returns-in-Ipa-clause-stops
 returns-in-Ipa-clause-stops g c = λ input fs tail told is handled no_read no_write.
     subst (λ (f : Form). StopsBy f fs tail c.run_ipa.result) (sym c.in-Ipa.is) (c.run_ipa.ensures.stops input fs tail told is (subst (λ (f : Form). HandledBy f fs) c.in-Ipa.is handled) no_read no_write)
+
+pub returns-in-Check-clause-does : goal.returns-in-Check-clause-does
+returns-in-Check-clause-does g c = does_of c.args.form _ c.run_check.result _ _ c.in-Check.is c.run_check.ensures.ran
+
+pub returns-in-Check-clause-complete : goal.returns-in-Check-clause-complete
+returns-in-Check-clause-complete g c = λ input fs told is handled no_read no_write. absurd (subst (λ (f : Form). HandledBy f fs) c.in-Check.is handled)
+
+pub returns-in-Check-clause-stops : goal.returns-in-Check-clause-stops
+returns-in-Check-clause-stops g c = λ input fs tail told is handled no_read no_write. absurd (subst (λ (f : Form). HandledBy f fs) c.in-Check.is handled)
+
+pub returns-in-Check-clause-checks : goal.returns-in-Check-clause-checks
+returns-in-Check-clause-checks g c = λ input form told. record {
+  done = c.run_check.ensures.done input told;
+  complete = c.run_check.ensures.complete input told;
+  stops = λ ls more. c.run_check.ensures.stops input ls more told;
+}
+
+pub returns-in-Gen-clause-does : goal.returns-in-Gen-clause-does
+returns-in-Gen-clause-does g c = does_of c.args.form _ c.run_gen.result _ _ c.in-Gen.is (record { generated = c.run_gen.ensures.generated; unread = refl; no_faults = refl })
+
+pub returns-in-Gen-clause-complete : goal.returns-in-Gen-clause-complete
+returns-in-Gen-clause-complete g c = λ input fs told is handled no_read no_write. absurd (subst (λ (f : Form). HandledBy f fs) c.in-Gen.is handled)
+
+pub returns-in-Gen-clause-stops : goal.returns-in-Gen-clause-stops
+returns-in-Gen-clause-stops g c = λ input fs tail told is handled no_read no_write. absurd (subst (λ (f : Form). HandledBy f fs) c.in-Gen.is handled)
+
+pub returns-in-Gen-clause-own : goal.returns-in-Gen-clause-own
+returns-in-Gen-clause-own g c = λ one. elim c.run_gen.ensures.statuses [
+  | inl zero ↦ omega (arith, zero, one)
+  | inr others ↦
+      elim others [
+        | inl three ↦ omega (arith, three, one)
+        | inr six ↦ omega (arith, six, one)
+      ]
+]
+
+pub returns-in-Gen-clause-causes : goal.returns-in-Gen-clause-causes
+returns-in-Gen-clause-causes g c = record {
+  read_later = omega arith;
+  write_later = c.run_gen.ensures.monotone;
+  read = λ two. elim c.run_gen.ensures.statuses [
+    | inl zero ↦ absurd (omega (arith, zero, two))
+    | inr others ↦
+        elim others [
+          | inl three ↦ absurd (omega (arith, three, two))
+          | inr six ↦ absurd (omega (arith, six, two))
+        ]
+  ];
+  write = c.run_gen.ensures.fault;
+}
