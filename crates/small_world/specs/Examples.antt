@@ -1,10 +1,11 @@
 -- Lines, devices and runs of the worked examples.
 use Rattle.std.specs.Prelude.{ℕ, true, false, List, [], ◌∷◌, ◌++◌, None, codes}
 use Rattle.chip_port.specs.declared.chip.Tear.TheVariants as tear
-use Rattle.small_card.specs.Examples.{home, home_on, all_off, card_eid, e1}
+use Rattle.small_card.specs.Examples.{home, home_on, all_off, card_eid, e1, listing}
 use Rattle.small_card.specs.declared.types.Body.{Body}
 use Rattle.small_card.specs.declared.types.Body.TheVariants.{Psmos}
 use Rattle.small_card.specs.declared.types.Psmo.TheVariants as psmo
+use Rattle.package_codec.specs.Spelling.{signed}
 use Rattle.modem_bank.specs.Modems.{Seen}
 use Rattle.iot_schedule.specs.declared.types.Device.{Device}
 use Rattle.iot_schedule.specs.declared.types.Line.{Line}
@@ -93,3 +94,7 @@ torn_load =
 -- The texts of a load that is lost, up to the boot.
 abbrev pub torn_texts : List (List ℕ)
 torn_texts = codes "ordered 1" ∷ codes "sent 0" ∷ codes "reply 0 package" ∷ codes "planned" ∷ codes "lost" ∷ codes "off" ∷ codes "off" ∷ []
+
+-- The octets of a package of the first eIM that asks for the profiles, with this counter.
+abbrev pub listing_octets : ℕ → List ℕ
+listing_octets counter = signed (record { «package» = listing 1 counter card_eid; signature = [] })

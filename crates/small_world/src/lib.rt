@@ -15,6 +15,7 @@ pub use laws::{
 };
 pub use reply::Reply;
 pub use worked::{
-    far_plan_worked, late_acknowledgement_worked, lost_boot_worked, modems_worked, set_up_worked,
-    torn_load_worked, two_eims_worked,
+    far_plan_worked, late_acknowledgement_worked, lost_boot_worked, modems_worked,
+    nobody_there_worked, probes_worked, set_up_worked, skipped_order_worked, torn_load_worked,
+    two_eims_worked,
 };

@@ -1,12 +1,13 @@
 //! Worked examples: runs and their texts, as functions that do nothing. Each begins behind the set-up
 //! of one device and one eIM.
-ghost use Rattle.std.specs.Prelude.{◌≡◌, ◌∷◌, ◌++◌, [], true, codes};
+ghost use Rattle.std.specs.Prelude.{◌≡◌, ◌∷◌, ◌++◌, [], true, false, codes};
 ghost use Rattle.chip_port.specs.declared.chip.Tear.TheVariants as tear;
 ghost use Rattle.iot_schedule.specs.declared.types.Line.TheVariants as line;
-ghost use Rattle.small_card.specs.Examples.{e1, e2, switch, show};
+ghost use Rattle.iot_schedule.specs.declared.types.Pick.TheVariants.{Last};
+ghost use Rattle.small_card.specs.Examples.{e1, e2, e9, switch, show};
 ghost use Rattle.small_world.specs.Examples.{dark_device, home_device, two_modems, kept_on, lost_on, taking_boot};
 ghost use Rattle.small_world.specs.Examples.{set_up, ordered_down, enable_home, goes_up, goes_down, played};
-ghost use Rattle.small_world.specs.Examples.{texts_of, MayBe, torn_load, torn_texts};
+ghost use Rattle.small_world.specs.Examples.{texts_of, MayBe, torn_load, torn_texts, listing_octets};
 ghost use Rattle.small_world.specs.Worlds.{start_world};
 
 /// A device is set up with its first eIM.
@@ -77,4 +78,35 @@ pub fn two_eims_worked()
         ∷ kept_on (line.Kept e1) ∷ kept_on line.Push ∷ goes_down 1 ∷ kept_on line.Push ∷ [])
         ≡ codes "eim ok" ∷ codes "ordered 1" ∷ codes "sent 0" ∷ codes "reply 0 package" ∷ codes "loaded 1 profiles=3" ∷ codes "sent 1"
         ∷ codes "reply 1 ack 1" ∷ codes "kept" ∷ codes "kept 1/1/1" ∷ codes "sent 2" ∷ codes "removed 1" ∷ codes "nothing pending" ∷ [] }
+{}
+
+/// The third failed probe in a row asks for a rollback, and probes count anew behind a package that was
+/// taken, also by a line of its own. On a dark card the third one counts anew too.
+pub fn probes_worked()
+    ensures texts { texts_of dark_device []
+        (kept_on (line.Probe false) ∷ kept_on (line.Load true (listing_octets 1)) ∷ kept_on (line.Probe false) ∷ kept_on (line.Probe false)
+        ∷ kept_on (line.Probe false) ∷ kept_on (line.Probe false) ∷ kept_on (line.Probe true) ∷ [])
+        ≡ codes "strikes 1" ∷ codes "loaded 1 profiles=3" ∷ codes "strikes 1" ∷ codes "strikes 2" ∷ codes "not permitted"
+        ∷ codes "strikes 1" ∷ codes "strikes 0" ∷ [] }
+    ensures dark { texts_of dark_device []
+        (kept_on (line.Probe false) ∷ kept_on (line.Probe false) ∷ lost_on line.Boot ∷ kept_on (line.Probe false) ∷ kept_on (line.Probe false) ∷ [])
+        ≡ codes "strikes 1" ∷ codes "strikes 2" ∷ codes "lost" ∷ codes "off" ∷ codes "strikes 1" ∷ [] }
+{}
+
+/// Orders are counted, and one that is given up is never sent; a counter that was passed is a replay.
+pub fn skipped_order_worked()
+    ensures texts { texts_of dark_device []
+        (kept_on (line.Order e1 show) ∷ kept_on (line.Order e1 enable_home) ∷ kept_on (line.Skip e1) ∷ kept_on (line.Poll e1) ∷ goes_up 0
+        ∷ goes_down 0 ∷ kept_on (line.Load true (listing_octets 1)) ∷ kept_on (line.Bind e1 1 1) ∷ [])
+        ≡ codes "ordered 1" ∷ codes "ordered 2" ∷ codes "skipped 1" ∷ codes "sent 0" ∷ codes "reply 0 package" ∷ codes "loaded 1 enable=0"
+        ∷ codes "refused 6 kept 2 received 1" ∷ codes "bind low 2" ∷ [] }
+{}
+
+/// Lines that name what isn't there.
+pub fn nobody_there_worked()
+    ensures texts { played (start_world dark_device [])
+        (kept_on (line.Up Last) ∷ kept_on (line.Down Last true) ∷ kept_on (line.Poll e9) ∷ kept_on (line.Detach 7) ∷ kept_on line.Push
+        ∷ kept_on (line.Eim e1) ∷ kept_on (line.Eim e1) ∷ kept_on (line.Order e1 show) ∷ [])
+        ≡ codes "no such" ∷ codes "no such" ∷ codes "no such" ∷ codes "no such" ∷ codes "nothing pending" ∷ codes "eim ok"
+        ∷ codes "eim exists" ∷ codes "unbound" ∷ [] }
 {}

@@ -1,0 +1,7 @@
+use Rattle.std.proofs.Common.{refl}
+use Rattle.small_world.proofs.Computing.{computing_world}
+use Rattle.small_world.proofs.worked.nobody_there_worked.Goals as goal
+
+pub returns : goal.returns
+unfolding computing_world
+returns c = record { texts = refl }
