@@ -98,10 +98,13 @@ pub fn boots_show_one_card()
 {}
 
 /// Each line can be taken in each world, so no line ends a run. One that doesn't step the card leaves
-/// no choice. A line prints `lost` exactly where it is lost.
+/// no choice, and only a boot of a dark card takes what was in progress. A line prints `lost` exactly
+/// where it is lost.
 pub fn lines_leave_choices()
     ensures some { (w : SmallWorld) (l : Line) → (t : Turn) × (t.line ≡ l) × MayTurn w t }
     ensures none { (w : SmallWorld) (t : Turn) → MayTurn w t → steps_card w t.line ≡ false → (t.lost ≡ false) × (t.taken ≡ false) }
+    ensures taken { (w : SmallWorld) (t : Turn) → MayTurn w t → t.taken ≡ true
+        → (is_boot t.line ≡ true) × (w.lit ≡ false) × (t.lost ≡ false) }
     ensures lost { (w : SmallWorld) (t : Turn) → MayTurn w t → (printed w t.line t.lost ≡ codes "lost") ↔ (t.lost ≡ true) }
 {}
 

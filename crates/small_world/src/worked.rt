@@ -16,12 +16,16 @@ pub fn set_up_worked()
 {}
 
 /// A boot under a plan of three calls is lost, since an opening makes more; the next one isn't, since
-/// the plan is dropped with it. A dark card has nothing to show.
+/// the plan is dropped with it. A dark card has nothing to show, and is not asked where a message brings
+/// nothing to do.
 pub fn lost_boot_worked()
     ensures texts { texts_of dark_device []
         (kept_on (line.Cut 3 tear.Old) ∷ lost_on line.Boot ∷ kept_on line.Show ∷ kept_on line.Boot ∷ kept_on line.Show ∷ [])
         ≡ codes "planned" ∷ codes "lost" ∷ codes "off" ∷ codes "booted"
         ∷ codes "profiles -98440000000000000001 -98440000000000000002 -98440000000000000003 eims e1/1/0 pending" ∷ [] }
+    ensures rest { texts_of dark_device []
+        (kept_on (line.Poll e1) ∷ goes_up 0 ∷ lost_on line.Boot ∷ goes_down 0 ∷ goes_down 7 ∷ [])
+        ≡ codes "sent 0" ∷ codes "reply 0 nothing" ∷ codes "lost" ∷ codes "rest" ∷ codes "no such" ∷ [] }
 {}
 
 /// A load that is torn before its first call: nothing is loaded, and the same message loads the package

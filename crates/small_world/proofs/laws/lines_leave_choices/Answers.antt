@@ -10,3 +10,6 @@ returns-clause-none c = no_choice
 
 pub returns-clause-lost : goal.returns-clause-lost
 returns-clause-lost c = lost_says
+
+pub returns-clause-taken : goal.returns-clause-taken
+returns-clause-taken c = λ w t m e. ((m.taken e).boot, (m.taken e).dark, (m.taken e).answered)
