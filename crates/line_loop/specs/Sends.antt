@@ -18,7 +18,7 @@ abbrev pub Sent : {E : Type 0} → Option (List ℕ) → Option (List ℕ) → L
 Sent old now text (Ok done) = HasSent old now text
 Sent old now text (Err fault) = HasSentInto old now [] text
 
--- Of a text all was appended but its end, which is that of the last line's text.
+-- Of a text all was appended but its end.
 pub record IsCutShort (old now : Option (List ℕ)) (text : List ℕ) : Type 0 where
   pub before : List ℕ
   pub last : List ℕ
