@@ -1,5 +1,7 @@
 //! What no clause says: that the calls succeed where there is memory, and the rules on examples.
 
+ghost use Rattle.std.specs.Prelude.{◌≡◌, IfOk};
+
 use super::*;
 use eim_table::Eims;
 use iot_bytes::{NoMemory, Row};
@@ -56,35 +58,62 @@ impl Model for Held {
     ghost invariant = { λ e. IsValid (full_card e.card) };
 }
 
-#[tactic(auto, unfolding(small_card::specs::Fresh::fresh))]
-fn new_card(alloc: Global, eid: Eid, profiles: Table) -> Result<Held, NoMemory> {
-    let _range = eid.octets();
-    profiles.in_range();
-    Ok(Held {
-        card: Card {
-            eid,
-            profiles,
-            eims: Eims::new(alloc, 1)?,
-            store: Store::new(alloc, 1)?,
-            armed: None,
-        },
-    })
+impl Held {
+    ghost use Rattle.home_codec.specs.FullCards.{full_card};
+    ghost use Rattle.small_card.specs.Fresh.{fresh};
+    ghost use Rattle.small_card.specs.Valid.{IsValid};
+    ghost use Rattle.card_steps.specs.Steps.{answer_of, left_by};
+
+    #[tactic(auto, unfolding(small_card::specs::Fresh::fresh))]
+    fn personalise(alloc: Global, eid: Eid, profiles: Table) -> Result<Held, NoMemory>
+        ensures fresh { IfOk result (λ made. made ≡ fresh eid profiles) }
+    {
+        let _range = eid.octets();
+        profiles.in_range();
+        Ok(Held {
+            card: Card {
+                eid,
+                profiles,
+                eims: Eims::new(alloc, 1)?,
+                store: Store::new(alloc, 1)?,
+                armed: None,
+            },
+        })
+    }
+
+    fn step(&mut self, alloc: Global, command: Command) -> Result<Answer, NoMemory> {
+        match turn(alloc, &self.card, command) {
+            Ok(end) => Ok(self.take_over(end)),
+            Err(NoMemory) => Err(NoMemory),
+        }
+    }
+
+    fn take_over(&mut self, end: Turn) -> Answer
+        requires valid { IsValid (left_by self.old end) }
+        ensures card { self.new ≡ left_by self.old end }
+        ensures answer { result ≡ answer_of end }
+    {
+        match end {
+            Turn::Same(answer) => answer,
+            Turn::Changed(card, answer) => {
+                self.card = card;
+                answer
+            }
+        }
+    }
 }
 
 fn personal_card(alloc: Global, enabled: u8) -> Result<Held, Fail> {
     match Table::of(profiles_of(alloc, enabled)?) {
-        Ok(table) => Ok(new_card(alloc, card_eid()?, table)?),
+        Ok(table) => Ok(Held::personalise(alloc, card_eid()?, table)?),
         Err(_) => Err("a list that is no table".into()),
     }
 }
 
 fn answered(alloc: Global, held: &mut Held, command: Command) -> Result<Answer, Fail> {
-    match turn(alloc, &held.card, command)? {
-        Turn::Same(answer) => Ok(answer),
-        Turn::Changed(card, answer) => {
-            held.card = card;
-            Ok(answer)
-        }
+    match held.step(alloc, command) {
+        Ok(answer) => Ok(answer),
+        Err(NoMemory) => Err("memory ran out".into()),
     }
 }
 
