@@ -22,3 +22,6 @@ pub use home_codec::Card;
 pub use laws::{an_image_stands_for_one_card, answers_are_held, losses_are_held};
 pub use reading::load;
 pub use staging::{Staged, stage};
+
+#[cfg(test)]
+mod tests;
