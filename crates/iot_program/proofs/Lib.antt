@@ -1,6 +1,1 @@
-mod Histories
-mod Replying
-mod Answering
 mod Serving
-mod Once
-mod Spelled

@@ -1,14 +1,9 @@
--- What a run reads and sends, by the form of its words and its status.
+-- What a run reads and sends and makes of its bench, by the form of its words and its status.
 use Rattle.std.specs.Prelude.{◌≡◌, ◌≢◌, ℕ, ◌≤◌, ◌⊎◌, List, [], ◌++◌, length, Option, Some, None}
-use Rattle.std.specs.List.{AllByRecursion}
-use Rattle.iot_bytes.specs.Frames.{IsTorn}
-use Rattle.run_loop.specs.declared.halt.RunEnd.{RunEnd}
-use Rattle.run_loop.specs.declared.reading.TheConstants.{MOST_FRAMES}
-use Rattle.run_loop.specs.Breaks.{PassesLimit, IsUnfit}
 use Rattle.run_loop.specs.Edges.{Edge}
-use Rattle.run_loop.specs.Frames.{IsShort}
-use Rattle.run_loop.specs.Runs.{Ended}
-use Rattle.run_loop.specs.Status.{exit_status}
+use Rattle.chip_port.specs.Seen.{Seen}
+use Rattle.lone_card.specs.Runs.{Served}
+use Rattle.lone_card.specs.Ends as card
 use Rattle.esipa_codec.specs.Eims.{new_eim}
 use Rattle.lone_parts.specs.Eims.{eim_rule}
 use Rattle.lone_parts.specs.Ipas.{ipa_rule}
@@ -21,16 +16,8 @@ use Rattle.schedule_forms.specs.Checks.{ok_line}
 use Rattle.schedule_forms.specs.Schedules.{Checked}
 use Rattle.schedule_forms.specs.Schedules as schedules
 use Rattle.schedule_forms.specs.Pieces.{HasGenerated}
-use Rattle.iot_program.specs.Cards.{reply_to, Begins}
-use Rattle.iot_program.specs.Answering.{AreAnswered, StopsAt}
 use Rattle.iot_program.specs.declared.words.Form.{Form}
 use Rattle.iot_program.specs.declared.words.Form.TheVariants as form
-
--- `card`: a run from no card on ended, and the status says why.
-pub record Served (status : ℕ) (old new : Edge) : Type 0 where
-  pub end : RunEnd
-  pub says : status ≡ exit_status end.halt end.closing
-  pub ended : Ended (AreAnswered None) (StopsAt None) old new end
 
 -- `gen`: the schedule of a start was sent as the status says, and nothing was read.
 pub record Generates (start lines status : ℕ) (old new : Edge) : Type 0 where
@@ -48,43 +35,27 @@ pub record DecidesBy (input : List ℕ) (status : ℕ) (old new : Edge) : Type 0
   pub stops : (ls more : List (List ℕ)) → lines_of input ≡ ls ++ more → schedules.AreHandled ls → ¬ Rose old.read_faults new.read_faults → ¬ Rose old.write_faults new.write_faults → schedules.StopsWith ls more status old.sent new.sent
 
 -- what a run does, by the form of its words
-abbrev pub Does : Option Form → ℕ → Edge → Edge → Type 0
-Does None status old new = status ≡ 1
-Does (Some form.Card) status old new = Served status old new
-Does (Some (form.Eim id eid)) status old new = Ran eim_rule (new_eim id eid) status old new
-Does (Some (form.Ipa eid)) status old new = Ran (ipa_rule eid) [] status old new
-Does (Some form.Check) status old new = Checked status old new
-Does (Some (form.Gen start lines)) status old new = Generates start lines status old new
+abbrev pub Does : Option Form → ℕ → Edge → Edge → Seen → Seen → Type 0
+Does None status old new s t = status ≡ 1
+Does (Some form.Card) status old new s t = Served status old new s t
+Does (Some (form.Eim id eid)) status old new s t = Ran eim_rule (new_eim id eid) status old new
+Does (Some (form.Ipa eid)) status old new s t = Ran (ipa_rule eid) [] status old new
+Does (Some form.Check) status old new s t = Checked status old new
+Does (Some (form.Gen start lines)) status old new s t = Generates start lines status old new
 
--- these frames are within the limits, and the first one personalises the card
-pub record AreHandled (fs : List (List ℕ)) : Type 0 where
-  pub few : length fs ≤ MOST_FRAMES
-  pub short : AllByRecursion IsShort fs
-  pub begins : Begins None fs
-
--- these frames are within the limits and, by the form, the first one personalises the card, or each is in the
+-- these frames are within the limits and, by the form, there is a card to answer them, or each is in the
 -- part's grammar; the forms that read lines or nothing handle no frames
-abbrev pub HandledBy : Form → List (List ℕ) → Type 0
-HandledBy form.Card fs = AreHandled fs
-HandledBy (form.Eim id eid) fs = parts.AreHandled eim_rule (new_eim id eid) fs
-HandledBy (form.Ipa eid) fs = parts.AreHandled (ipa_rule eid) [] fs
-HandledBy form.Check fs = ⊥
-HandledBy (form.Gen start lines) fs = ⊥
-
--- no frame was handled, and this one doesn't personalise a card
-abbrev pub IsNoStart : List (List ℕ) → List ℕ → Type 0
-IsNoStart fs f = (fs ≡ []) × (reply_to None f ≡ None)
+abbrev pub HandledBy : Form → Seen → List (List ℕ) → Type 0
+HandledBy form.Card s fs = card.AreHandled s fs
+HandledBy (form.Eim id eid) s fs = parts.AreHandled eim_rule (new_eim id eid) fs
+HandledBy (form.Ipa eid) s fs = parts.AreHandled (ipa_rule eid) [] fs
+HandledBy form.Check s fs = ⊥
+HandledBy (form.Gen start lines) s fs = ⊥
 
 -- the status where an input stops behind these frames, and neither a call failed nor memory was wanting but for 6
-pub record StopsWith (fs : List (List ℕ)) (tail : List ℕ) (status : ℕ) : Type 0 where
-  pub torn : IsTorn tail → (status ≡ 5) ⊎ (status ≡ 6)
-  pub limit : PassesLimit fs tail → (status ≡ 7) ⊎ (status ≡ 6)
-  pub unfit : IsUnfit IsNoStart fs tail → (status ≡ 8) ⊎ (status ≡ 6)
-
--- the same by the form of the words
-abbrev pub StopsBy : Form → List (List ℕ) → List ℕ → ℕ → Type 0
-StopsBy form.Card fs tail status = StopsWith fs tail status
-StopsBy (form.Eim id eid) fs tail status = parts.StopsWith eim_rule (new_eim id eid) fs tail status
-StopsBy (form.Ipa eid) fs tail status = parts.StopsWith (ipa_rule eid) [] fs tail status
-StopsBy form.Check fs tail status = ⊥
-StopsBy (form.Gen start lines) fs tail status = ⊥
+abbrev pub StopsBy : Form → Seen → List (List ℕ) → List ℕ → ℕ → Type 0
+StopsBy form.Card s fs tail status = card.StopsWith s fs tail status
+StopsBy (form.Eim id eid) s fs tail status = parts.StopsWith eim_rule (new_eim id eid) fs tail status
+StopsBy (form.Ipa eid) s fs tail status = parts.StopsWith (ipa_rule eid) [] fs tail status
+StopsBy form.Check s fs tail status = ⊥
+StopsBy (form.Gen start lines) s fs tail status = ⊥

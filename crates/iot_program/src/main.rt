@@ -1,9 +1,6 @@
 //! `iot`: remote management of eSIM profiles, replayed over recorded octets.
 #![tactic(auto)]
 
-mod card;
-mod held;
-mod laws;
 mod run;
 #[cfg(test)]
 mod tests;
@@ -12,11 +9,14 @@ mod words;
 ghost use Rattle.std.specs.Prelude.{◌≡◌, ◌≢◌};
 ghost use Rattle.std.specs.IoError.{error_kind};
 
-use iot_bytes::{StdSink, StdSource};
+use chip_port::{Bench, MemChip};
+use file_chip::FileChip;
+use iot_bytes::{NoMemory, Row, StdSink, StdSource};
 use run::{FAULTY_WORDS, run};
 use std::env;
 use std::io::{self, BufReader, ErrorKind};
 use std::process::ExitCode;
+use words::{Form, form_of_words};
 
 const NO_MEMORY: u8 = 6;
 
@@ -31,11 +31,32 @@ fn command_line(rt: &HostRuntime) -> io::Result<Vec<String>> {
 
 // Runs over the standard input, which is buffered, and the standard output, which isn't: an answer
 // leaves the program as soon as its frame is handled.
-fn run_over_streams(rt: &HostRuntime) -> io::Result<u8> {
-    let words = command_line(rt)?;
+fn run_over_streams<B: Bench>(rt: &HostRuntime, words: &[String], bench: &mut B) -> io::Result<u8> {
     let mut source = StdSource::new(BufReader::new(rt.alloc(), rt.stdin())?);
     let mut sink = StdSink::new(rt.stdout());
-    Ok(run(rt.alloc(), &words, &mut source, &mut sink))
+    Ok(run(rt.alloc(), words, &mut source, &mut sink, bench))
+}
+
+// Runs over a chip in memory, which no form but `card` asks for.
+fn run_in_memory(rt: &HostRuntime, words: &[String]) -> io::Result<u8> {
+    match MemChip::new(rt.alloc(), Row::new(rt.alloc())) {
+        Ok(chip) => {
+            let mut chip = chip;
+            run_over_streams(rt, words, &mut chip)
+        }
+        Err(NoMemory) => Err(io::Error::from(ErrorKind::OutOfMemory)),
+    }
+}
+
+// Runs over the file that the words name, or over a chip in memory.
+fn run_words(rt: &HostRuntime) -> io::Result<u8> {
+    let words = command_line(rt)?;
+    match (form_of_words(&words), words.as_slice()) {
+        (Some(Form::Card), [_, path]) => {
+            run_over_streams(rt, &words, &mut FileChip::at(rt, path.as_str()))
+        }
+        _ => run_in_memory(rt, &words),
+    }
 }
 
 // The status where the program can't run: memory is wanting, or a word isn't UTF-8.
@@ -50,7 +71,7 @@ fn status_of(error: &io::Error) -> u8
 }
 
 fn main(rt: HostRuntime) -> ExitCode {
-    match run_over_streams(&rt) {
+    match run_words(&rt) {
         Ok(status) => ExitCode::from(status),
         Err(error) => ExitCode::from(status_of(&error)),
     }

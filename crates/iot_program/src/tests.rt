@@ -3,6 +3,7 @@
 
 use crate::run::run;
 use crate::status_of;
+use chip_port::MemChip;
 use iot_bytes::{MemSink, MemSource, Row, read_hex};
 use run_loop::MOST_FRAMES;
 use std::alloc::Global;
@@ -100,7 +101,8 @@ fn ends(
         String::from_str(alloc, "card")?,
         String::from_str(alloc, "x")?,
     ];
-    let ended = run(alloc, &words, &mut source, &mut sink);
+    let mut chip = MemChip::new(alloc, Row::new(alloc))?;
+    let ended = run(alloc, &words, &mut source, &mut sink, &mut chip);
     Ok(ended == status && sink.taken() == sent.as_slice())
 }
 
@@ -410,9 +412,13 @@ fn faulty_command_lines(rt: HostRuntime) -> Result<(), Fail> {
         ];
         let mut source = MemSource::new(Row::new(alloc), 1, Row::new(alloc));
         let mut sink = MemSink::new(alloc, 9, 1, Row::new(alloc))?;
-        assert_eq!(rt; run(alloc, &words, &mut source, &mut sink), 1);
-        assert_eq!(rt; run(alloc, &words[..1], &mut source, &mut sink), 1);
-        assert_eq!(rt; run(alloc, &[], &mut source, &mut sink), 1);
+        let mut chip = MemChip::new(alloc, Row::new(alloc))?;
+        assert_eq!(rt; run(alloc, &words, &mut source, &mut sink, &mut chip), 1);
+        assert_eq!(rt;
+            run(alloc, &words[..1], &mut source, &mut sink, &mut chip),
+            1
+        );
+        assert_eq!(rt; run(alloc, &[], &mut source, &mut sink, &mut chip), 1);
     }
     // a word that isn't UTF-8 is invalid data
     assert_eq!(rt; status_of(&io::Error::from(ErrorKind::InvalidData)), 1);

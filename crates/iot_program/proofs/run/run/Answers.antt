@@ -1,4 +1,4 @@
-use Rattle.std.proofs.Common.{◌≡◌, ◌∙◌, sym, subst}
+use Rattle.std.proofs.Common.{◌≡◌, ◌∙◌, Some, ap, sym, subst}
 use Rattle.sgp_fields.proofs.Steps.{some_is}
 use Rattle.iot_program.specs.declared.words.Form.{Form}
 use Rattle.iot_program.specs.Ends.{HandledBy, StopsBy}
@@ -6,20 +6,27 @@ use Rattle.iot_program.proofs.Serving.{does_words}
 use Rattle.iot_program.proofs.run.run.Goals as goal
 
 pub returns-in-Some-clause-does : goal.returns-in-Some-clause-does
-returns-in-Some-clause-does g c = does_words _ c.in-Some.form c.run_form.result _ _ (sym c.form_of_words.ensures.form ∙ c.in-Some.is) c.run_form.ensures.does
+returns-in-Some-clause-does g c = does_words _ c.in-Some.form c.run_form.result _ _ _ _ (sym c.form_of_words.ensures.form ∙ c.in-Some.is) c.run_form.ensures.does
 
 pub returns-in-Some-clause-complete : goal.returns-in-Some-clause-complete
-returns-in-Some-clause-complete g c = λ form input fs words told is handled no_read no_write.
+returns-in-Some-clause-complete g c = λ form input fs words told is handled no_read no_write calm.
     let same : form ≡ c.in-Some.form = some_is _ _ (sym words ∙ sym c.form_of_words.ensures.form ∙ c.in-Some.is) in
-    c.run_form.ensures.complete input fs told is (subst (λ (f : Form). HandledBy f fs) same handled) no_read no_write
+    c.run_form.ensures.complete input fs told is (subst (λ (f : Form). HandledBy f (g.B.Chip.sees c.args.bench.now) fs) same handled) no_read no_write calm
 
 pub returns-in-Some-clause-stops : goal.returns-in-Some-clause-stops
-returns-in-Some-clause-stops g c = λ form input fs tail words told is handled no_read no_write.
+returns-in-Some-clause-stops g c = λ form input fs tail words told is handled no_read no_write calm.
     let same : form ≡ c.in-Some.form = some_is _ _ (sym words ∙ sym c.form_of_words.ensures.form ∙ c.in-Some.is) in
-    subst (λ (f : Form). StopsBy f fs tail c.run_form.result) (sym same) (c.run_form.ensures.stops input fs tail told is (subst (λ (f : Form). HandledBy f fs) same handled) no_read no_write)
+    subst (λ (f : Form). StopsBy f (g.B.Chip.sees c.args.bench.now) fs tail c.run_form.result) (sym same) (c.run_form.ensures.stops input fs tail told is (subst (λ (f : Form). HandledBy f (g.B.Chip.sees c.args.bench.now) fs) same handled) no_read no_write calm)
 
 pub returns-in-Some-clause-checks : goal.returns-in-Some-clause-checks
 returns-in-Some-clause-checks g c = λ input words. c.run_form.ensures.checks input (some_is _ _ (sym (sym words ∙ sym c.form_of_words.ensures.form ∙ c.in-Some.is)))
 
 pub returns-in-Some-clause-unread : goal.returns-in-Some-clause-unread
 returns-in-Some-clause-unread g c = λ start lines words. c.run_form.ensures.unread start lines (some_is _ _ (sym (sym words ∙ sym c.form_of_words.ensures.form ∙ c.in-Some.is)))
+
+pub returns-in-Some-clause-faults : goal.returns-in-Some-clause-faults
+returns-in-Some-clause-faults g c = λ words. c.run_form.ensures.faults (some_is _ _ (sym (sym words ∙ sym c.form_of_words.ensures.form ∙ c.in-Some.is)))
+
+pub returns-in-Some-clause-untouched_bench : goal.returns-in-Some-clause-untouched_bench
+returns-in-Some-clause-untouched_bench g c = λ other.
+    c.run_form.ensures.untouched_bench (λ card. other (sym c.form_of_words.ensures.form ∙ c.in-Some.is ∙ ap (λ (f : Form). Some f) card))

@@ -5,46 +5,46 @@ use Rattle.iot_program.proofs.Serving.{does_of}
 use Rattle.iot_program.proofs.run.run_form.Goals as goal
 
 pub returns-in-Card-clause-does : goal.returns-in-Card-clause-does
-returns-in-Card-clause-does g c = does_of c.args.form _ c.run_card.result _ _ c.in-Card.is c.run_card.ensures.does
+returns-in-Card-clause-does g c = does_of c.args.form _ c.run_card.result _ _ _ _ c.in-Card.is c.run_card.ensures.served
 
 pub returns-in-Card-clause-complete : goal.returns-in-Card-clause-complete
-returns-in-Card-clause-complete g c = λ input fs told is handled no_read no_write.
-    c.run_card.ensures.complete input fs told is (subst (λ (f : Form). HandledBy f fs) c.in-Card.is handled) no_read no_write
+returns-in-Card-clause-complete g c = λ input fs told is handled no_read no_write calm.
+    c.run_card.ensures.complete input fs told is (subst (λ (f : Form). HandledBy f (g.B.Chip.sees c.args.bench.now) fs) c.in-Card.is handled) no_read no_write calm
 
 pub returns-in-Eim-clause-does : goal.returns-in-Eim-clause-does
-returns-in-Eim-clause-does g c = does_of c.args.form _ c.run_eim.result _ _ c.in-Eim.is c.run_eim.ensures.ran
+returns-in-Eim-clause-does g c = does_of c.args.form _ c.run_eim.result _ _ _ _ c.in-Eim.is c.run_eim.ensures.ran
 
 pub returns-in-Eim-clause-complete : goal.returns-in-Eim-clause-complete
-returns-in-Eim-clause-complete g c = λ input fs told is handled no_read no_write.
-    c.run_eim.ensures.complete input fs told is (subst (λ (f : Form). HandledBy f fs) c.in-Eim.is handled) no_read no_write
+returns-in-Eim-clause-complete g c = λ input fs told is handled no_read no_write calm.
+    c.run_eim.ensures.complete input fs told is (subst (λ (f : Form). HandledBy f (g.B.Chip.sees c.args.bench.now) fs) c.in-Eim.is handled) no_read no_write
 
 pub returns-in-Ipa-clause-does : goal.returns-in-Ipa-clause-does
-returns-in-Ipa-clause-does g c = does_of c.args.form _ c.run_ipa.result _ _ c.in-Ipa.is c.run_ipa.ensures.ran
+returns-in-Ipa-clause-does g c = does_of c.args.form _ c.run_ipa.result _ _ _ _ c.in-Ipa.is c.run_ipa.ensures.ran
 
 pub returns-in-Ipa-clause-complete : goal.returns-in-Ipa-clause-complete
-returns-in-Ipa-clause-complete g c = λ input fs told is handled no_read no_write.
-    c.run_ipa.ensures.complete input fs told is (subst (λ (f : Form). HandledBy f fs) c.in-Ipa.is handled) no_read no_write
+returns-in-Ipa-clause-complete g c = λ input fs told is handled no_read no_write calm.
+    c.run_ipa.ensures.complete input fs told is (subst (λ (f : Form). HandledBy f (g.B.Chip.sees c.args.bench.now) fs) c.in-Ipa.is handled) no_read no_write
 
 pub returns-in-Card-clause-stops : goal.returns-in-Card-clause-stops
-returns-in-Card-clause-stops g c = λ input fs tail told is handled no_read no_write.
-    subst (λ (f : Form). StopsBy f fs tail c.run_card.result) (sym c.in-Card.is) (c.run_card.ensures.stops input fs tail told is (subst (λ (f : Form). HandledBy f fs) c.in-Card.is handled) no_read no_write)
+returns-in-Card-clause-stops g c = λ input fs tail told is handled no_read no_write calm.
+    subst (λ (f : Form). StopsBy f (g.B.Chip.sees c.args.bench.now) fs tail c.run_card.result) (sym c.in-Card.is) (c.run_card.ensures.stops input fs tail told is (subst (λ (f : Form). HandledBy f (g.B.Chip.sees c.args.bench.now) fs) c.in-Card.is handled) no_read no_write calm)
 
 pub returns-in-Eim-clause-stops : goal.returns-in-Eim-clause-stops
-returns-in-Eim-clause-stops g c = λ input fs tail told is handled no_read no_write.
-    subst (λ (f : Form). StopsBy f fs tail c.run_eim.result) (sym c.in-Eim.is) (c.run_eim.ensures.stops input fs tail told is (subst (λ (f : Form). HandledBy f fs) c.in-Eim.is handled) no_read no_write)
+returns-in-Eim-clause-stops g c = λ input fs tail told is handled no_read no_write calm.
+    subst (λ (f : Form). StopsBy f (g.B.Chip.sees c.args.bench.now) fs tail c.run_eim.result) (sym c.in-Eim.is) (c.run_eim.ensures.stops input fs tail told is (subst (λ (f : Form). HandledBy f (g.B.Chip.sees c.args.bench.now) fs) c.in-Eim.is handled) no_read no_write)
 
 pub returns-in-Ipa-clause-stops : goal.returns-in-Ipa-clause-stops
-returns-in-Ipa-clause-stops g c = λ input fs tail told is handled no_read no_write.
-    subst (λ (f : Form). StopsBy f fs tail c.run_ipa.result) (sym c.in-Ipa.is) (c.run_ipa.ensures.stops input fs tail told is (subst (λ (f : Form). HandledBy f fs) c.in-Ipa.is handled) no_read no_write)
+returns-in-Ipa-clause-stops g c = λ input fs tail told is handled no_read no_write calm.
+    subst (λ (f : Form). StopsBy f (g.B.Chip.sees c.args.bench.now) fs tail c.run_ipa.result) (sym c.in-Ipa.is) (c.run_ipa.ensures.stops input fs tail told is (subst (λ (f : Form). HandledBy f (g.B.Chip.sees c.args.bench.now) fs) c.in-Ipa.is handled) no_read no_write)
 
 pub returns-in-Check-clause-does : goal.returns-in-Check-clause-does
-returns-in-Check-clause-does g c = does_of c.args.form _ c.run_check.result _ _ c.in-Check.is c.run_check.ensures.ran
+returns-in-Check-clause-does g c = does_of c.args.form _ c.run_check.result _ _ _ _ c.in-Check.is c.run_check.ensures.ran
 
 pub returns-in-Check-clause-complete : goal.returns-in-Check-clause-complete
-returns-in-Check-clause-complete g c = λ input fs told is handled no_read no_write. absurd (subst (λ (f : Form). HandledBy f fs) c.in-Check.is handled)
+returns-in-Check-clause-complete g c = λ input fs told is handled no_read no_write calm. absurd (subst (λ (f : Form). HandledBy f (g.B.Chip.sees c.args.bench.now) fs) c.in-Check.is handled)
 
 pub returns-in-Check-clause-stops : goal.returns-in-Check-clause-stops
-returns-in-Check-clause-stops g c = λ input fs tail told is handled no_read no_write. absurd (subst (λ (f : Form). HandledBy f fs) c.in-Check.is handled)
+returns-in-Check-clause-stops g c = λ input fs tail told is handled no_read no_write calm. absurd (subst (λ (f : Form). HandledBy f (g.B.Chip.sees c.args.bench.now) fs) c.in-Check.is handled)
 
 pub returns-in-Check-clause-checks : goal.returns-in-Check-clause-checks
 returns-in-Check-clause-checks g c = λ input form told. record {
@@ -54,13 +54,13 @@ returns-in-Check-clause-checks g c = λ input form told. record {
 }
 
 pub returns-in-Gen-clause-does : goal.returns-in-Gen-clause-does
-returns-in-Gen-clause-does g c = does_of c.args.form _ c.run_gen.result _ _ c.in-Gen.is (record { generated = c.run_gen.ensures.generated; unread = refl; no_faults = refl })
+returns-in-Gen-clause-does g c = does_of c.args.form _ c.run_gen.result _ _ _ _ c.in-Gen.is (record { generated = c.run_gen.ensures.generated; unread = refl; no_faults = refl })
 
 pub returns-in-Gen-clause-complete : goal.returns-in-Gen-clause-complete
-returns-in-Gen-clause-complete g c = λ input fs told is handled no_read no_write. absurd (subst (λ (f : Form). HandledBy f fs) c.in-Gen.is handled)
+returns-in-Gen-clause-complete g c = λ input fs told is handled no_read no_write calm. absurd (subst (λ (f : Form). HandledBy f (g.B.Chip.sees c.args.bench.now) fs) c.in-Gen.is handled)
 
 pub returns-in-Gen-clause-stops : goal.returns-in-Gen-clause-stops
-returns-in-Gen-clause-stops g c = λ input fs tail told is handled no_read no_write. absurd (subst (λ (f : Form). HandledBy f fs) c.in-Gen.is handled)
+returns-in-Gen-clause-stops g c = λ input fs tail told is handled no_read no_write calm. absurd (subst (λ (f : Form). HandledBy f (g.B.Chip.sees c.args.bench.now) fs) c.in-Gen.is handled)
 
 pub returns-in-Gen-clause-own : goal.returns-in-Gen-clause-own
 returns-in-Gen-clause-own g c = λ one. elim c.run_gen.ensures.statuses [

@@ -1,5 +1,0 @@
-use Rattle.iot_program.proofs.Spelled.{reply_spelled, after_spelled, reply_none, after_none}
-use Rattle.iot_program.proofs.laws.commands_are_replied_to.Goals as goal
-
-pub returns : goal.returns
-returns c = record { replied = reply_spelled; carried_out = after_spelled; malformed = reply_none; ignored = after_none }

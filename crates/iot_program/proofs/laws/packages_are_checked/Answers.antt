@@ -1,5 +1,0 @@
-use Rattle.iot_program.proofs.Spelled.{check_spelled, check_none}
-use Rattle.iot_program.proofs.laws.packages_are_checked.Goals as goal
-
-pub returns : goal.returns
-returns c = record { checked = check_spelled; malformed = check_none }
