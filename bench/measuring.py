@@ -10,6 +10,8 @@ import time
 TOP = os.path.dirname(os.path.dirname(os.path.abspath(__file__)))
 PROGRAM = f"{TOP}/crates/iot_program/out/iot_program"
 MOST_FRAMES = 100_000
+# Stands in a command for a file that isn't there yet.
+NEW_CHIP = "a new chip"
 
 
 def frames(stream):
@@ -27,12 +29,19 @@ def stored(given):
     return source
 
 
+def on_new_chip(command, folder):
+    """The command over a file of its own."""
+    return [f"{folder}/chip" if word == NEW_CHIP else word for word in command]
+
+
 def ran(command, source):
     """The seconds that a command takes over the input."""
     source.seek(0)
-    begun = time.perf_counter()
-    status = subprocess.run(command, stdin=source, stdout=subprocess.DEVNULL).returncode
-    spent = time.perf_counter() - begun
+    with tempfile.TemporaryDirectory() as folder:
+        words = on_new_chip(command, folder)
+        begun = time.perf_counter()
+        status = subprocess.run(words, stdin=source, stdout=subprocess.DEVNULL).returncode
+        spent = time.perf_counter() - begun
     if status:
         sys.exit(f"{command} ended with {status}")
     return spent
@@ -51,11 +60,12 @@ def peak(command, given):
     timer = shutil.which("time")
     if timer is None:
         return None
-    with tempfile.NamedTemporaryFile("r") as told, stored(given) as source:
+    with tempfile.TemporaryDirectory() as folder, stored(given) as source:
         source.seek(0)
-        measured = [timer, "-f", "%M", "-o", told.name, *command]
+        told = f"{folder}/told"
+        measured = [timer, "-f", "%M", "-o", told, *on_new_chip(command, folder)]
         subprocess.run(measured, stdin=source, stdout=subprocess.DEVNULL, check=True)
-        return int(told.read())
+        return int(open(told).read())
 
 
 def spread(values, digits=0):
