@@ -68,7 +68,8 @@ fn armed_with(seq: u32, former: Option<Iccid>) -> Option<Armed>
 fn take(alloc: Global, card: &Card, load: &Package) -> Result<(Card, PackageResult), NoMemory>
     requires count { MayCount load.now.eim load.now.counter card.now.eims.entries }
     requires room { has_room card.now.store ≡ true }
-    ensures unit { IfOk result (λ end. full_card end.0 ≡ step_full (full_card card.now) (load_unit load.now)) }
+    ensures unit { IfOk result (λ end. full_card end.0
+        ≡ step_full (full_card card.now) (load_unit load.now)) }
     ensures answer { IfOk result (λ end. end.1 ≡ result_of (small_card card.now) load.now) }
 {
     let mut eims = card.eims.copy(alloc)?;
@@ -111,7 +112,8 @@ fn load_received(alloc: Global, card: &Card, received: Received) -> Result<Turn,
 
 /// Answers a load. The checks come before anything is copied.
 pub(crate) fn load(alloc: Global, card: &Card, good: bool, bytes: &[u8]) -> Result<Turn, NoMemory>
-    ensures turns { IfOk result (λ end. Turns (command.Load good bytes.now) (full_card card.now) end) }
+    ensures turns { IfOk result (λ end. Turns (command.Load good bytes.now)
+        (full_card card.now) end) }
 {
     match Received::parse(alloc, good, bytes) {
         Ok(received) => load_received(alloc, card, received),

@@ -153,8 +153,8 @@ fn load_of_eims(alloc: Global, counter: u64) -> Result<Command, Fail> {
 }
 
 /// The command of a letter: 'r' rolls back, a digit removes that result, 'l' and 'e' load a package
-/// that lists profiles or eIMs, 'x' is a replay, 'p' personalises again, 'i' associates a first eIM,
-/// and 's' and 't' list results and eIMs.
+/// that lists profiles or eIMs, 'x' is a replay, 'p' personalises again, 'i' associates a first
+/// eIM, and 's' and 't' list results and eIMs.
 fn command_of(alloc: Global, letter: u8) -> Result<Command, Fail> {
     match letter {
         b'r' => Ok(Command::Rollback),

@@ -111,7 +111,8 @@ pub(crate) fn associate(
     address: Address,
     key: Key,
 ) -> Result<Turn, NoMemory>
-    ensures turns { IfOk result (λ end. Turns (command.Initial id address key) (full_card card.now) end) }
+    ensures turns { IfOk result (λ end. Turns (command.Initial id address key)
+        (full_card card.now) end) }
 {
     if has_eims(&card.eims) {
         return Ok(Turn::Same(Answer::InitialRefused { code: EIM_THERE }));

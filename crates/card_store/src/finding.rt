@@ -106,8 +106,10 @@ fn compare_slots<C: Chip>(
         (Tries 576 result (C.sees chip.old) (C.sees chip.new)) }
     ensures listed { OnOk result (Lists 25 673 changes.old changes.new) }
     ensures told { OnOk result (IfTold (C.sees chip.old) ((f : FullCard)
-        → Fronted f (places_of pending.now seats.now) 0 changes.old (home_in (C.sees chip.old).reads)
-        → Fronted f (places_of pending.now seats.now) 8 changes.new (home_in (C.sees chip.old).reads))) }
+        → Fronted f (places_of pending.now seats.now) 0 changes.old
+        (home_in (C.sees chip.old).reads)
+        → Fronted f (places_of pending.now seats.now) 8 changes.new
+        (home_in (C.sees chip.old).reads))) }
 {
     for slot in 0..SLOTS {
         let place = seated(pending, seats[slot]);

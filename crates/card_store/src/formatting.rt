@@ -1,7 +1,7 @@
 //! Making a card on a chip.
 //!
-//! The magic is taken away first and put there last, each synced, so that a cut on the way leaves no
-//! home that is half old and half new.
+//! The magic is taken away first and put there last, each synced, so that a cut on the way leaves
+//! no home that is half old and half new.
 
 ghost use Rattle.std.specs.Prelude.{◌≡◌, ◌≤◌, ◌+◌, length, is_ok, OnOk, IfOk, false};
 ghost use Rattle.chip_port.specs.Rules.{HasCause, IfTold, Only};
@@ -94,7 +94,8 @@ fn sign<C: Chip>(chip: &mut C) -> Result<(), Failed>
     ensures cause { HasCause (C.sees chip.old) (C.sees chip.new) result }
     ensures spare { TakesAtMost 2 8 (C.sees chip.old) (C.sees chip.new) }
     ensures told { IfTold (C.sees chip.old)
-        (Signs (home_in (C.sees chip.old).reads) (is_ok result) (C.sees chip.old) (C.sees chip.new)) }
+        (Signs (home_in (C.sees chip.old).reads) (is_ok result) (C.sees chip.old)
+        (C.sees chip.new)) }
 {
     chip.write_at(0, &MAGIC)?;
     chip.sync()
@@ -115,8 +116,8 @@ fn write_new<C: Chip>(chip: &mut C, home: &[u8]) -> Result<(), Failed>
     sign(chip)
 }
 
-/// Makes a card with these profiles, no eIM and no result, whatever stood on the chip. All memory is
-/// taken before anything is read or written. After it one spare call is left, for `answer`.
+/// Makes a card with these profiles, no eIM and no result, whatever stood on the chip. All memory
+/// is taken before anything is read or written. After it one spare call is left, for `answer`.
 pub fn format<C: Chip>(
     alloc: Global,
     chip: &mut C,

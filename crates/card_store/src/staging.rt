@@ -96,8 +96,8 @@ fn ready<C: Chip>(chip: &mut C, changes: Changes, card: Card) -> Result<Staged, 
 }
 
 /// Finds the blocks that change where a new card takes the place of the old one, and makes room on
-/// the chip. It writes nothing. It reads the front of each result slot, the blocks of the fields, and
-/// the blocks that the new results take.
+/// the chip. It writes nothing. It reads the front of each result slot, the blocks of the fields,
+/// and the blocks that the new results take.
 ///
 /// A pending result keeps its slot. Where one result is gone and one came, this one takes its slot;
 /// each other new result takes the lowest free slot.
@@ -126,8 +126,8 @@ pub fn stage<C: Chip>(
 }
 
 impl Staged {
-    /// Writes the unit: the blocks that change, and no other. It takes no memory. After it one spare
-    /// call is left, for `answer`. Where nothing changes it makes no call of the chip.
+    /// Writes the unit: the blocks that change, and no other. It takes no memory. After it one
+    /// spare call is left, for `answer`. Where nothing changes it makes no call of the chip.
     pub fn commit<C: Chip>(self, chip: &mut C) -> Result<Card, Failed>
         requires room { HasRoom self (C.sees chip.old) }
         requires staged { IfTold (C.sees chip.old) (IsStagedOn self (C.sees chip.old)) }

@@ -36,8 +36,10 @@ impl Model for Checked {
 
 // The checks after the verdict, against the entry of the package's eIM.
 fn entry_refusal(load: &Package, eid: &Eid, entry: &EimEntry, store: &Store) -> Option<Refused>
-    ensures passes { MatchOption result (IsForEntry load.now eid.now entry.now store.now) (λ _. ¬ IsForEntry load.now eid.now entry.now store.now) }
-    ensures first { (h : History) → IsLegal h → (card_of h).eid ≡ eid.now → (card_of h).results ≡ store.now
+    ensures passes { MatchOption result (IsForEntry load.now eid.now entry.now store.now)
+        (λ _. ¬ IsForEntry load.now eid.now entry.now store.now) }
+    ensures first { (h : History) → IsLegal h → (card_of h).eid ≡ eid.now
+        → (card_of h).results ≡ store.now
         → find (is_eim load.now.eim) (card_of h).eims.entries ≡ Some entry.now
         → later_refusal (card_of h) (kept h load.now.eim load.now.association) load.now ≡ result }
 {
@@ -62,9 +64,11 @@ fn entry_refusal(load: &Package, eid: &Eid, entry: &EimEntry, store: &Store) -> 
 
 // The first check that the package fails.
 fn refusal(good: bool, load: &Package, eid: &Eid, eims: &Eims, store: &Store) -> Option<Refused>
-    ensures passes { MatchOption result (Passes (record { good = good; load = load.now }) eid.now eims.now store.now)
+    ensures passes { MatchOption result (Passes
+        (record { good = good; load = load.now }) eid.now eims.now store.now)
         (λ _. ¬ Passes (record { good = good; load = load.now }) eid.now eims.now store.now) }
-    ensures first { (h : History) → IsCardOf h eid.now eims.now store.now → package_refusal h good load.now ≡ result }
+    ensures first { (h : History) → IsCardOf h eid.now eims.now store.now
+        → package_refusal h good load.now ≡ result }
 {
     let Some(entry) = eims.find(&load.eim) else {
         return Some(refused(UNKNOWN_EIM));
@@ -83,10 +87,12 @@ impl Received {
     /// The first of these that applies: code 2 no such eIM, 3 a bad verdict, 4 another card's EID,
     /// 5 another association, 6 a counter that isn't above the kept one, 7 no room for a result.
     pub fn check(self, eid: &Eid, eims: &Eims, store: &Store) -> Result<Checked, Refused>
-        ensures passes { MatchResult result (λ accepted. Passes self eid.now eims.now store.now × (accepted ≡ self.load))
+        ensures passes { MatchResult result (λ accepted. Passes self eid.now eims.now store.now
+            × (accepted ≡ self.load))
             (λ _. ¬ Passes self eid.now eims.now store.now) }
         ensures checked { (h : History) → IsCardOf h eid.now eims.now store.now
-            → MatchResult result (λ accepted. check_request h self ≡ Ok accepted) (λ why. check_request h self ≡ Err why) }
+            → MatchResult result (λ accepted. check_request h self ≡ Ok accepted)
+            (λ why. check_request h self ≡ Err why) }
     {
         let Received { good, load } = self;
         match refusal(good, &load, eid, eims, store) {

@@ -9,6 +9,8 @@ ghost use Rattle.counter_check.specs.Loads.{IsAcceptable};
 
 /// A load is accepted exactly where all checks pass and a result has room.
 pub fn loads_are_accepted_exactly()
-    ensures accepted { (h : History) (good : Bool) (bytes : List ℕ) (p : Package) → AllPass is_octet bytes → check h good bytes ≡ Ok p → IsAcceptable h good bytes p }
-    ensures exact { (h : History) (good : Bool) (bytes : List ℕ) (p : Package) → IsAcceptable h good bytes p → check h good bytes ≡ Ok p }
+    ensures accepted { (h : History) (good : Bool) (bytes : List ℕ) (p : Package)
+        → AllPass is_octet bytes → check h good bytes ≡ Ok p → IsAcceptable h good bytes p }
+    ensures exact { (h : History) (good : Bool) (bytes : List ℕ) (p : Package)
+        → IsAcceptable h good bytes p → check h good bytes ≡ Ok p }
 {}

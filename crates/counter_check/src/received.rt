@@ -59,8 +59,10 @@ impl Received {
     /// Code 8 where it has more than 4,096 octets, else code 1 where it is malformed.
     pub fn parse(alloc: Global, good: bool, bytes: &[u8]) -> Result<Received, ParseEnd>
         ensures read { IfOk result (λ request. IsRead good bytes.now request) }
-        ensures checked { IfOk result (λ request. (h : History) → check h good bytes.now ≡ check_request h request) }
-        ensures refused { (why : Refused) → result ≡ Err (ParseEnd.Refused why) → (h : History) → check h good bytes.now ≡ Err why }
+        ensures checked { IfOk result (λ request. (h : History)
+            → check h good bytes.now ≡ check_request h request) }
+        ensures refused { (why : Refused) → result ≡ Err (ParseEnd.Refused why) → (h : History)
+            → check h good bytes.now ≡ Err why }
     {
         if bytes.len() > MOST_PACKAGE_OCTETS {
             return Err(ParseEnd::Refused(refused(TOO_LONG)));

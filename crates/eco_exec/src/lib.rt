@@ -1,7 +1,8 @@
-//! Executes the eIM Configuration Operations of an eUICC Package (SGP.32) on a card's manager table.
+//! Executes the eIM Configuration Operations of an eUICC Package (SGP.32) on a card's manager
+//! table.
 //!
-//! They are executed in order, and the first that isn't done is the last. A manager may delete itself:
-//! the rest of its package is executed, and so it is where no manager is left.
+//! They are executed in order, and the first that isn't done is the last. A manager may delete
+//! itself: the rest of its package is executed, and so it is where no manager is left.
 #![tactic(auto)]
 
 mod laws;

@@ -1,5 +1,6 @@
-//! A manager's queue for one card (SGP.32, eIM): it orders packages, answers the assistant, and keeps
-//! one record for each package whose result it heard of. The rules are told in `docs/ESIPA.md`.
+//! A manager's queue for one card (SGP.32, eIM): it orders packages, answers the assistant, and
+//! keeps one record for each package whose result it heard of. The rules are told in
+//! `docs/ESIPA.md`.
 #![tactic(auto)]
 
 mod orders;

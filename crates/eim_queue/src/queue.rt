@@ -3,7 +3,9 @@ ghost use Rattle.std.specs.List.{AllPass};
 ghost use Rattle.sgp_values.specs.Ranges.{is_octet};
 ghost use Rattle.small_card.specs.Lists.{same};
 ghost use Rattle.small_card.specs.Ranges.{IsBody, IsNumber, IsSigned, greatest_counter};
-ghost use Rattle.esipa_codec.specs.Eims.{EimState, bind_end, bound_to, heard, last_of, message_end, new_eim, order_end, ordered, package_of, skip_end, skipped};
+ghost use Rattle.esipa_codec.specs.Eims.{EimState, bind_end, bound_to, heard, last_of, message_end};
+ghost use Rattle.esipa_codec.specs.Eims.{new_eim, order_end, ordered, package_of, skip_end};
+ghost use Rattle.esipa_codec.specs.Eims.{skipped};
 ghost use Rattle.esipa_codec.specs.Records.{records_of};
 ghost use Rattle.esipa_codec.specs.declared.messages.ToEim.TheVariants as to_eim;
 ghost use Rattle.esipa_codec.specs.declared.messages.ToIpa.TheVariants as to_ipa;
@@ -64,7 +66,8 @@ impl Eim {
         requires association { IsNumber association }
         requires last { last ≤ greatest_counter }
         ensures end { (e : EimState) → IsEim self.old e → result ≡ bind_end association last e }
-        ensures stands { (e : EimState) → IsEim self.old e → IsEim self.new (bound_to association last e) }
+        ensures stands { (e : EimState) → IsEim self.old e
+            → IsEim self.new (bound_to association last e) }
     {
         let used = greatest_used(&self.orders, association);
         if last < used {
@@ -74,12 +77,13 @@ impl Eim {
         BindEnd::Bound
     }
 
-    /// Orders these operations under the next counter of the association that the queue is bound to.
-    /// Where memory is wanting nothing changes.
+    /// Orders these operations under the next counter of the association that the queue is bound
+    /// to. Where memory is wanting nothing changes.
     pub fn order(&mut self, alloc: Global, body: Body) -> OrderEnd
         requires { IsBody body }
         ensures end { (e : EimState) → IsEim self.old e → IfOrdered result (result ≡ order_end e) }
-        ensures stands { (e : EimState) → IsEim self.old e → IfOrdered result (IsEim self.new (ordered body e)) }
+        ensures stands { (e : EimState) → IsEim self.old e
+            → IfOrdered result (IsEim self.new (ordered body e)) }
         ensures no_memory { result ≡ OrderEnd.NoMemory → self.new ≡ self.old }
     {
         match self.bound {
@@ -99,7 +103,8 @@ impl Eim {
         requires left { bound.last ≤ greatest_counter - 1 }
         requires body { IsBody body }
         ensures end { (e : EimState) → IsEim self.old e → IfOrdered result (result ≡ order_end e) }
-        ensures stands { (e : EimState) → IsEim self.old e → IfOrdered result (IsEim self.new (ordered body e)) }
+        ensures stands { (e : EimState) → IsEim self.old e
+            → IfOrdered result (IsEim self.new (ordered body e)) }
         ensures no_memory { result ≡ OrderEnd.NoMemory → self.new ≡ self.old }
     {
         let counter = bound.last + 1;
@@ -121,7 +126,8 @@ impl Eim {
 
     /// The package of an order, with an empty signature.
     fn package(&self, alloc: Global, association: u32, counter: u64, body: Body) -> Signed
-        ensures { result ≡ package_of self.now.id self.now.eid (record { association = association; counter = counter; body = body; skipped = false }) }
+        ensures { result ≡ package_of self.now.id self.now.eid
+            (record { association = association; counter = counter; body = body; skipped = false }) }
     {
         Signed {
             package: Package {
@@ -148,8 +154,10 @@ impl Eim {
 
     /// Hears a message from the assistant. Where memory is wanting nothing changes.
     pub fn on_message(&mut self, alloc: Global, message: ToEim) -> MessageEnd
-        ensures end { (e : EimState) → IsEim self.old e → IfServed result (result ≡ message_end message e) }
-        ensures stands { (e : EimState) → IsEim self.old e → IfServed result (IsEim self.new (heard message e)) }
+        ensures end { (e : EimState) → IsEim self.old e
+            → IfServed result (result ≡ message_end message e) }
+        ensures stands { (e : EimState) → IsEim self.old e
+            → IfServed result (IsEim self.new (heard message e)) }
         ensures no_memory { result ≡ MessageEnd.NoMemory → self.new ≡ self.old }
         // What is sent is in range, and short.
         ensures range { IsToEim message → IsSendable result }
@@ -166,7 +174,8 @@ impl Eim {
 
     /// A poll for this card fetches the package of the first order that waits.
     fn on_poll(&self, alloc: Global, eid: &Eid) -> MessageEnd
-        ensures end { (e : EimState) → IsEim self.now e → IfServed result (result ≡ message_end (to_eim.Poll eid.now) e) }
+        ensures end { (e : EimState) → IsEim self.now e
+            → IfServed result (result ≡ message_end (to_eim.Poll eid.now) e) }
         ensures range { IsSendable result }
     {
         if !is_same_card(eid, &self.eid) {
@@ -180,8 +189,10 @@ impl Eim {
 
     /// A result of this eIM is recorded and acknowledged by its own number; another is not heard.
     fn on_result(&mut self, item: PackageResult) -> MessageEnd
-        ensures end { (e : EimState) → IsEim self.old e → IfServed result (result ≡ message_end (to_eim.Result item) e) }
-        ensures stands { (e : EimState) → IsEim self.old e → IfServed result (IsEim self.new (heard (to_eim.Result item) e)) }
+        ensures end { (e : EimState) → IsEim self.old e
+            → IfServed result (result ≡ message_end (to_eim.Result item) e) }
+        ensures stands { (e : EimState) → IsEim self.old e
+            → IfServed result (IsEim self.new (heard (to_eim.Result item) e)) }
         ensures no_memory { result ≡ MessageEnd.NoMemory → self.new ≡ self.old }
         ensures range { IsNumber item.seq → IsSendable result }
     {
@@ -244,7 +255,8 @@ fn carried(bytes: Row<u8>) -> MessageEnd
 /// The octets of a package.
 fn spelled(alloc: Global, package: &Signed) -> MessageEnd
     requires { IsSigned «package».now }
-    ensures end { IfServed result (result ≡ MessageEnd.Reply (to_ipa.Package (signed «package».now))) }
+    ensures end { IfServed result (result ≡ MessageEnd.Reply
+        (to_ipa.Package (signed «package».now))) }
     ensures range { IsSendable result }
 {
     let mut bytes = Row::new(alloc);

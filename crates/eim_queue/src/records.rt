@@ -28,9 +28,11 @@ fn add(rows: &mut Row<PackageResult>, item: PackageResult) -> Result<(), NoMemor
     rows.push(item).map_err(|_| NoMemory)
 }
 
-/// Keeps a result, unless the record of its association and counter has its number or a greater one.
+/// Keeps a result, unless the record of its association and counter has its number or a greater
+/// one.
 pub(crate) fn receive(rows: &mut Row<PackageResult>, item: PackageResult) -> Result<(), NoMemory>
-    ensures ok { (received : List PackageResult) → AreRecords rows.old received → OnOk result (AreRecords rows.new (item ∷ received)) }
+    ensures ok { (received : List PackageResult) → AreRecords rows.old received
+        → OnOk result (AreRecords rows.new (item ∷ received)) }
     ensures err { OnErr result (rows.new ≡ rows.old) }
 {
     match place_of(rows.as_slice(), item.association, item.counter) {

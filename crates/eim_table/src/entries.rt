@@ -1,11 +1,14 @@
 //! What the table does to the list of its entries.
 
-ghost use Rattle.std.specs.Prelude.{◌≡◌, ◌<◌, ◌≤◌, ◌+◌, ◌++◌, ◌∷◌, [], length, map, find, position, if◌then◌else◌, IfOk};
+ghost use Rattle.std.specs.Prelude.{◌≡◌, ◌<◌, ◌≤◌, ◌+◌, ◌++◌, ◌∷◌, [], length, map, find, position};
+ghost use Rattle.std.specs.Prelude.{if◌then◌else◌, IfOk};
 ghost use Rattle.std.specs.List.{list_all};
 ghost use Rattle.std.specs.Option.{option_copied};
 ghost use Rattle.eim_table.specs.Entries.{is_given, are_eims};
 ghost use Rattle.small_card.specs.Lists.{EveryPair};
-ghost use Rattle.small_card.specs.EimOperations.{is_eim, has_eim, without_eim, line_of, with_fields, updated, counted, with_counter, is_empty_list};
+ghost use Rattle.small_card.specs.EimOperations.{is_eim, has_eim, without_eim, line_of};
+ghost use Rattle.small_card.specs.EimOperations.{with_fields, updated, counted, with_counter};
+ghost use Rattle.small_card.specs.EimOperations.{is_empty_list};
 ghost use Rattle.small_card.specs.Valid.{AreEntriesApart};
 
 use iot_bytes::{NoMemory, Reserve, Row};

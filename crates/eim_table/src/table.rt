@@ -17,11 +17,11 @@ use small_card::{EimEntry, EimLine};
 use std::alloc::Global;
 use std::marker::Model;
 
-/// The eIMs of a card in the order in which they were added, at most 8, and the association that the
-/// next one gets.
+/// The eIMs of a card in the order in which they were added, at most 8, and the association that
+/// the next one gets.
 ///
-/// No two have one identifier or one association, and each association is from 1 to below the next one.
-/// The memory for 8 entries is taken when the table is made.
+/// No two have one identifier or one association, and each association is from 1 to below the next
+/// one. The memory for 8 entries is taken when the table is made.
 #[derive(Debug, Drop)]
 pub struct Eims {
     entries: Reserve<EimEntry>,
@@ -45,8 +45,8 @@ impl Model for Eims {
 pub enum AddEnd {
     /// The eIM has an entry, with this association.
     Added(u32),
-    /// The code of the refusal, as [`small_card::codes`] names them: 1 the eIM has an entry, 2 there are
-    /// eight entries, 3 no association is left. Nothing changed.
+    /// The code of the refusal, as [`small_card::codes`] names them: 1 the eIM has an entry, 2
+    /// there are eight entries, 3 no association is left. Nothing changed.
     Refused(u8),
 }
 
@@ -62,9 +62,9 @@ impl Eims {
         })
     }
 
-    /// Whether these entries and the next association may stand in a table, as [`Eims::of`] wants it:
-    /// at most 8 entries, no two with one identifier or one association, each association from 1 to
-    /// below the next one, which is from 1. It takes no memory.
+    /// Whether these entries and the next association may stand in a table, as [`Eims::of`] wants
+    /// it: at most 8 entries, no two with one identifier or one association, each association from
+    /// 1 to below the next one, which is from 1. It takes no memory.
     #[tactic(auto, using(crate::proofs::Keeping::tested_exactly))]
     pub fn fits(entries: &[EimEntry], next: u32) -> bool
         ensures exact { (result ≡ true) ↔ IsEims (record { entries = entries.now; next = next }) }
@@ -90,8 +90,8 @@ impl Eims {
     /// Adds an eIM: it goes last, with counter 0 and the next association, which rises. It takes no
     /// memory.
     ///
-    /// It is refused where it has an entry, else where there are eight, else where the next association
-    /// is 4,294,967,295.
+    /// It is refused where it has an entry, else where there are eight, else where the next
+    /// association is 4,294,967,295.
     #[tactic(auto, unfolding(small_card::specs::EimOperations::do_eco, small_card::specs::EimOperations::last_association, crate::specs::Adding::item_of))]
     pub fn add(&mut self, id: EimId, address: Address, key: Key) -> AddEnd
         ensures operation { (self.new, item_of result) ≡ do_eco self.old (eco.Add id address key) }
@@ -120,12 +120,14 @@ impl Eims {
         AddEnd::Added(association)
     }
 
-    /// Gives an eIM the fields that are named; its counter and its association stay. It takes no memory.
+    /// Gives an eIM the fields that are named; its counter and its association stay. It takes no
+    /// memory.
     ///
     /// Gives the code of [`Item::Update`](small_card::Item::Update): 0 done, 1 no entry.
     #[tactic(auto, unfolding(small_card::specs::EimOperations::do_eco))]
     pub fn update(&mut self, id: &EimId, address: Option<Address>, key: Option<Key>) -> u8
-        ensures operation { (self.new, item.Update result) ≡ do_eco self.old (eco.Update id.now address key) }
+        ensures operation { (self.new, item.Update result)
+            ≡ do_eco self.old (eco.Update id.now address key) }
         ensures refused { result ≢ 0 → self.new ≡ self.old }
     {
         if !has_eim(self.entries.as_slice(), id) {
@@ -137,8 +139,8 @@ impl Eims {
 
     /// Deletes an eIM. Its association is never given out again. It takes no memory.
     ///
-    /// Gives the code of [`Item::Dropped`](small_card::Item::Dropped): 0 done, 1 no entry, 2 done and
-    /// none is left.
+    /// Gives the code of [`Item::Dropped`](small_card::Item::Dropped): 0 done, 1 no entry, 2 done
+    /// and none is left.
     #[tactic(auto, unfolding(small_card::specs::EimOperations::do_eco))]
     pub fn delete(&mut self, id: &EimId) -> u8
         ensures operation { (self.new, item.Dropped result) ≡ do_eco self.old (eco.Delete id.now) }
@@ -194,7 +196,8 @@ impl Eims {
     #[tactic(auto, unfolding(small_card::specs::EimOperations::do_eco))]
     pub fn list(&self, alloc: Global) -> Result<Row<EimLine>, NoMemory>
         ensures lines { IfOk result (λ rows. rows ≡ map line_of self.now.entries) }
-        ensures operation { IfOk result (λ rows. (self.now, item.Eims rows) ≡ do_eco self.now eco.List) }
+        ensures operation { IfOk result (λ rows. (self.now, item.Eims rows)
+            ≡ do_eco self.now eco.List) }
     {
         lines_of(alloc, self.entries.as_slice())
     }

@@ -18,7 +18,8 @@ ghost use Rattle.esipa_codec.specs.declared.messages.ToIpa.{ToIpa};
 pub fn records_stay()
     ensures stays { (x : EimEvent) (e : EimState) (association counter : ℕ) (r : PackageResult)
         → record_of association counter e.received ≡ Some r
-        → (s : PackageResult) × (record_of association counter (after_event x e).received ≡ Some s) × (r.seq ≤ s.seq) }
+        → (s : PackageResult) × (record_of association counter (after_event x e).received ≡ Some s)
+        × (r.seq ≤ s.seq) }
 {}
 
 /// A result that comes late, with a number that isn't above that of the record, leaves the record:
@@ -33,7 +34,8 @@ pub fn late_copies_change_no_record()
 /// orders of its association.
 pub fn counters_never_return()
     ensures rise { (id eid : List ℕ) (events : List EimEvent)
-        → EveryPair (λ earlier later. earlier.association ≡ later.association → earlier.counter < later.counter)
+        → EveryPair (λ earlier later. earlier.association ≡ later.association
+        → earlier.counter < later.counter)
         (after_events id eid events).orders }
 {}
 

@@ -1,4 +1,5 @@
-//! Carrying a command out on a lit card: its turn over values, the unit on the chip, and the answer.
+//! Carrying a command out on a lit card: its turn over values, the unit on the chip, and the
+//! answer.
 
 ghost use Rattle.std.specs.Prelude.{◌≡◌, ◌≤◌, Some, IfOk, OnOk};
 ghost use Rattle.chip_port.specs.Rules.{IfTold};
@@ -42,7 +43,8 @@ fn write<C: Chip>(alloc: Global, chip: &mut C, old: &Card, new: Card) -> Result<
     ensures cause { HasCauseOf StageError.Failed (C.sees chip.old) (C.sees chip.new) result }
     ensures card { IfOk result (λ card. full_card card ≡ full_card new) }
     ensures room { OnOk result (1 ≤ (C.sees chip.new).spare.calls) }
-    ensures told { IfTold (C.sees chip.old) (Writes (full_card old.now) (full_card new) (failure_of result)
+    ensures told { IfTold (C.sees chip.old) (Writes (full_card old.now) (full_card new)
+        (failure_of result)
         (C.sees chip.old) (C.sees chip.new)) }
 {
     match stage(alloc, chip, old, new) {
@@ -61,7 +63,8 @@ fn unit<C: Chip>(alloc: Global, chip: &mut C, old: &Card, new: Card) -> Result<C
     requires valid { IsValid (full_card new) }
     ensures cause { HasCauseOf StageError.Failed (C.sees chip.old) (C.sees chip.new) result }
     ensures card { IfOk result (λ card. full_card card ≡ full_card new) }
-    ensures told { IfTold (C.sees chip.old) (ClosesUnit (full_card old.now) (full_card new) (failure_of result)
+    ensures told { IfTold (C.sees chip.old) (ClosesUnit (full_card old.now) (full_card new)
+        (failure_of result)
         (C.sees chip.old) (C.sees chip.new)) }
 {
     match write(alloc, chip, old, new) {

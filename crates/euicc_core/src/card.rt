@@ -54,8 +54,8 @@ fn of_load(end: LoadEnd) -> OpenError
 }
 
 impl EuiccCard {
-    /// Makes a card with these profiles, no eIM and no result, whatever stood on the chip. The answer
-    /// is the last call of the chip. All memory is taken before the first call.
+    /// Makes a card with these profiles, no eIM and no result, whatever stood on the chip. The
+    /// answer is the last call of the chip. All memory is taken before the first call.
     ///
     /// A cut on the way leaves what stood there but for its magic, no card, or the new one.
     pub fn personalise<C: Chip>(
@@ -80,8 +80,8 @@ impl EuiccCard {
         }
     }
 
-    /// Recovers the chip, reads the card that stands on it, and answers to reset as the last call of
-    /// the chip.
+    /// Recovers the chip, reads the card that stands on it, and answers to reset as the last call
+    /// of the chip.
     ///
     /// It may itself be cut, any number of times: what a cut leaves still stands for the card.
     ///
@@ -104,9 +104,9 @@ impl EuiccCard {
         }
     }
 
-    /// Carries out a command, writes what it changes as one unit, and answers it as the last call of
-    /// the chip. A refused command and a listing make no other call. All memory of a unit and of its
-    /// answer is taken before anything is written.
+    /// Carries out a command, writes what it changes as one unit, and answers it as the last call
+    /// of the chip. A refused command and a listing make no other call. All memory of a unit and of
+    /// its answer is taken before anything is written.
     pub fn step<C: Chip>(&mut self, alloc: Global, chip: &mut C, command: Command) -> StepEnd
         requires settled { IfTold (C.sees chip.old) (IsLitOn self.old (C.sees chip.old)) }
         ensures cause { HasCauseOfStep result (C.sees chip.old) (C.sees chip.new) }

@@ -1,8 +1,8 @@
-//! The card (eUICC) on its chip: every command of ES10b is answered by one step, which is one unit of
-//! the card's history, or none.
+//! The card (eUICC) on its chip: every command of ES10b is answered by one step, which is one unit
+//! of the card's history, or none.
 //!
-//! Whatever a power cut leaves at any moment of a step stands for the card before it or the one after
-//! it. docs/CHIP.md tells what each moment leaves.
+//! Whatever a power cut leaves at any moment of a step stands for the card before it or the one
+//! after it. docs/CHIP.md tells what each moment leaves.
 #![tactic(auto)]
 
 mod answering;

@@ -8,7 +8,8 @@ ghost use Rattle.small_card.specs.Valid.{is_unmarked as unmarked};
 ghost use Rattle.eim_table.specs.Entries.{are_eims as eims_test};
 ghost use Rattle.result_store.specs.Stores.{is_store as store_test};
 ghost use Rattle.home_codec.specs.FullCards.{GivesCard};
-ghost use Rattle.home_codec.specs.Reading.{is_counted, is_armed as armed_test, fits_together, card_of_parts, whole};
+ghost use Rattle.home_codec.specs.Reading.{is_counted, is_armed as armed_test, fits_together};
+ghost use Rattle.home_codec.specs.Reading.{card_of_parts, whole};
 
 use crate::card::Card;
 use crate::head::Head;
@@ -60,7 +61,8 @@ fn is_unmarked(pending: &[PackageResult], seq: u32) -> bool
 
 // What is armed is on the card: the former profile, and the result; a number is left for its mark.
 fn is_armed(table: &Table, pending: &[PackageResult], next: u32, armed: &Option<Armed>) -> bool
-    ensures { result ≡ armed_test table.now (record { pending = pending.now; next = next }) armed.now }
+    ensures { result ≡ armed_test table.now
+        (record { pending = pending.now; next = next }) armed.now }
 {
     match armed {
         Some(armed) => {

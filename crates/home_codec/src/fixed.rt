@@ -1,7 +1,8 @@
 //! Reading the fields of a home, which are of fixed size, one call a field.
 
 ghost use Rattle.std.specs.Prelude.{◌≡◌, ◌+◌, Some, None, IfOk, MatchResult, length};
-ghost use Rattle.home_codec.specs.Fixed.{Reads, octet_at, octets_at, fixed_at, is_blank, blank_at, word_at, long_at, text_at};
+ghost use Rattle.home_codec.specs.Fixed.{Reads, octet_at, octets_at, fixed_at, is_blank, blank_at};
+ghost use Rattle.home_codec.specs.Fixed.{word_at, long_at, text_at};
 
 use iot_bytes::ReadError;
 use sgp_fields::Content;

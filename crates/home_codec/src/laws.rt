@@ -1,6 +1,7 @@
 //! What holds of all homes, as functions that do nothing: the clauses are the laws.
 
-ghost use Rattle.std.specs.Prelude.{◌≡◌, ◌≤◌, ◌<◌, ◌∷◌, ◌++◌, [], ℕ, Bool, List, Option, Some, None, length, take, slice_get, slice_set, filter};
+ghost use Rattle.std.specs.Prelude.{◌≡◌, ◌≤◌, ◌<◌, ◌∷◌, ◌++◌, [], ℕ, Bool, List, Option, Some};
+ghost use Rattle.std.specs.Prelude.{None, length, take, slice_get, slice_set, filter};
 ghost use Rattle.sgp_fields.specs.Laws.{AreOctets};
 ghost use Rattle.small_card.specs.Cards.{FullCard};
 ghost use Rattle.small_card.specs.Lists.{Every, EveryPair, without};
@@ -22,7 +23,8 @@ pub fn homes_have_one_card()
 /// What is read as a card is its home, and every home of a card is read as it: as it is written, or
 /// with the results in any slots.
 pub fn homes_are_read_back()
-    ensures taken { (home : List ℕ) (f : FullCard) → AreOctets home → card_at home ≡ Some f → IsHomeOf f home }
+    ensures taken { (home : List ℕ) (f : FullCard) → AreOctets home → card_at home ≡ Some f
+        → IsHomeOf f home }
     ensures again { (home : List ℕ) (f : FullCard) → IsHomeOf f home → card_at home ≡ Some f }
     ensures written { (f : FullCard) → IsValid f → IsHomeOf f (home_of f) }
 {}
@@ -38,7 +40,8 @@ pub fn homes_are_whole()
 pub fn parts_are_laid()
     ensures places { (home : List ℕ) (f : FullCard) → IsHomeOf f home → HasPending f home }
     ensures slot { (places : List (Option PackageResult)) (home : List ℕ)
-        (slot : ℕ) (place : Option PackageResult) → HasPlaces places home → slot < 8 → length (slot_front place) ≤ 18313
+        (slot : ℕ) (place : Option PackageResult) → HasPlaces places home → slot < 8
+        → length (slot_front place) ≤ 18313
         → HasPlaces (slice_set places slot place) (laid home (slot_begin slot) (slot_front place)) }
     ensures fields { (places : List (Option PackageResult)) (home octets : List ℕ)
         → HasPlaces places home → length octets ≡ 6400 → HasPlaces places (laid home 0 octets) }
@@ -48,8 +51,8 @@ pub fn parts_are_laid()
 {}
 
 /// A result that takes a free slot comes to the others in the order of its number, last where its
-/// number is the highest, and one whose slot is made free leaves them in theirs. Which of the results
-/// come first makes no difference.
+/// number is the highest, and one whose slot is made free leaves them in theirs. Which of the
+/// results come first makes no difference.
 pub fn places_change()
     ensures seated { (places : List (Option PackageResult)) (slot : ℕ) (r : PackageResult)
         → slice_get places slot ≡ Some None → IsOther r (somes places)

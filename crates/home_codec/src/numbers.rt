@@ -1,6 +1,7 @@
 //! The sequence number of the result in a slot, without reading the result.
 
-ghost use Rattle.std.specs.Prelude.{◌≡◌, ◌≤◌, ◌++◌, ℕ, List, Option, None, Some, IfSome, MatchResult, length, option_map};
+ghost use Rattle.std.specs.Prelude.{◌≡◌, ◌≤◌, ◌++◌, ℕ, List, Option, None, Some, IfSome};
+ghost use Rattle.std.specs.Prelude.{MatchResult, length, option_map};
 ghost use Rattle.small_card.specs.Ranges.{IsResult};
 ghost use Rattle.small_card.specs.declared.types.PackageResult.{PackageResult};
 ghost use Rattle.home_codec.specs.Homes.{Begins};
@@ -21,7 +22,8 @@ const LONG_LENGTH: u8 = 0x80;
 // The number in the first field, behind the tag and the length of a result.
 #[tactic(auto, unfolding(crate::specs::Numbers::seq_at))]
 fn seq<'a>(octets: FixedFields<'a>) -> Result<u32, ReadError>
-    ensures { MatchResult result (λ n. seq_at octets.entry ≡ Some n) (λ _. seq_at octets.entry ≡ None) }
+    ensures { MatchResult result (λ n. seq_at octets.entry ≡ Some n)
+        (λ _. seq_at octets.entry ≡ None) }
 {
     let mut octets = octets;
     octets.octet()?;

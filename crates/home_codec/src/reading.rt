@@ -41,7 +41,8 @@ pub fn read_card(alloc: Global, home: &[u8]) -> Result<Card, ReadError>
     // The card whose home it is is read, unless memory runs out.
     ensures only { (f : FullCard) → IsHomeOf f home.now → GivesCard result (Some f) }
     // Malformed comes only where it is the home of no card.
-    ensures malformed { IsErrOf result ReadError.Malformed → (f : FullCard) → IsHomeOf f home.now → ⊥ }
+    ensures malformed { IsErrOf result ReadError.Malformed → (f : FullCard) → IsHomeOf f home.now
+        → ⊥ }
     // The reading word, for callers that compose it.
     ensures exact { GivesCard result (card_at home.now) }
 {

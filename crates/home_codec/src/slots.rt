@@ -1,6 +1,7 @@
 //! The slots of profiles and of eIMs.
 
-ghost use Rattle.std.specs.Prelude.{◌≡◌, ◌≤◌, ◌*◌, ℕ, List, Option, Some, IfOk, MatchResult, length};
+ghost use Rattle.std.specs.Prelude.{◌≡◌, ◌≤◌, ◌*◌, ℕ, List, Option, Some, IfOk, MatchResult};
+ghost use Rattle.std.specs.Prelude.{length};
 ghost use Rattle.home_codec.specs.Fixed.{Reads, Fails, many_at, slots_at};
 ghost use Rattle.home_codec.specs.Reading.{state_at, profile_at, eim_at};
 

@@ -1,11 +1,13 @@
 //! The octets of a home, each production appended to a row.
 
-ghost use Rattle.std.specs.Prelude.{◌≡◌, ◌≤◌, ◌+◌, ◌*◌, ◌-◌, ◌++◌, ◌∷◌, [], ℕ, List, take, length, OnOk, IfOk};
+ghost use Rattle.std.specs.Prelude.{◌≡◌, ◌≤◌, ◌+◌, ◌*◌, ◌-◌, ◌++◌, ◌∷◌, [], ℕ, List, take, length};
+ghost use Rattle.std.specs.Prelude.{OnOk, IfOk};
 ghost use Rattle.std.specs.List.{flat_map};
 ghost use Rattle.small_card.specs.Lists.{Every};
 ghost use Rattle.small_card.specs.Ranges.{IsResult};
 ghost use Rattle.home_codec.specs.Fixed.{zeros, word, long, text, slots};
-ghost use Rattle.home_codec.specs.Layout.{armed_field, head as spelled_head, profile_slot, eim_slot, kept_front, result_slot};
+ghost use Rattle.home_codec.specs.Layout.{armed_field, head as spelled_head, profile_slot};
+ghost use Rattle.home_codec.specs.Layout.{eim_slot, kept_front, result_slot};
 
 use crate::head::Head;
 use crate::layout::{

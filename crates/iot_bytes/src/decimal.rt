@@ -38,7 +38,8 @@ pub fn read_decimal(token: &[u8]) -> Option<u64>
 
 /// The law that reading a number gives back the number that was written.
 pub fn decimal_comes_back()
-    ensures { (n : ℕ) (answer : Option ℕ) → n < 2 ^ 64 → ReadsDecimal (decimal n) answer → answer ≡ Some n }
+    ensures { (n : ℕ) (answer : Option ℕ) → n < 2 ^ 64 → ReadsDecimal (decimal n) answer
+        → answer ≡ Some n }
 {}
 
 /// The law that a number's decimal is the one text of digits with its value and without a needless

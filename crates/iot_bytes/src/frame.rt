@@ -1,6 +1,7 @@
 //! Frames: four octets of length, big-endian, and so many octets.
 
-ghost use Rattle.std.specs.Prelude.{◌≡◌, ℕ, ◌+◌, ◌^◌, ◌<◌, ◌≤◌, List, [], ◌++◌, length, take, drop, Option, Some, None, OnOk, OnErr, slice_index};
+ghost use Rattle.std.specs.Prelude.{◌≡◌, ℕ, ◌+◌, ◌^◌, ◌<◌, ◌≤◌, List, [], ◌++◌, length, take, drop};
+ghost use Rattle.std.specs.Prelude.{Option, Some, None, OnOk, OnErr, slice_index};
 ghost use Rattle.std.specs.List.{All, flat_map};
 ghost use Rattle.iot_bytes.specs.Causes.{Rose};
 ghost use Rattle.iot_bytes.specs.Frames.{frame, blank_head, FrameGives, IsFrameDecided};
@@ -43,7 +44,8 @@ enum FillEnd {
 
 // Fills all of `out`, unless the source ends or fails before.
 fn fill<S: Source>(source: &mut S, out: &mut [u8]) -> FillEnd
-    ensures octets { (bytes : List ℕ) → S.rest source.old ≡ Some bytes → Fills bytes out.new (S.rest source.new) result }
+    ensures octets { (bytes : List ℕ) → S.rest source.old ≡ Some bytes
+        → Fills bytes out.new (S.rest source.new) result }
     ensures untold { S.rest source.old ≡ None → S.rest source.new ≡ None }
     ensures monotone { S.faults source.old ≤ S.faults source.new }
     ensures fault { result ≡ FillEnd.Fault → Rose (S.faults source.old) (S.faults source.new) }
@@ -64,7 +66,8 @@ fn fill<S: Source>(source: &mut S, out: &mut [u8]) -> FillEnd
 ///
 /// A source may give its octets in any pieces. None is taken from behind the frame.
 pub fn read_frame<S: Source>(alloc: Global, source: &mut S) -> FrameEnd
-    ensures octets { (bytes : List ℕ) → S.rest source.old ≡ Some bytes → FrameGives bytes result (S.rest source.new) }
+    ensures octets { (bytes : List ℕ) → S.rest source.old ≡ Some bytes
+        → FrameGives bytes result (S.rest source.new) }
     ensures untold { S.rest source.old ≡ None → S.rest source.new ≡ None }
     ensures monotone { S.faults source.old ≤ S.faults source.new }
     ensures fault { result ≡ FrameEnd.ReadFault → Rose (S.faults source.old) (S.faults source.new) }
@@ -119,15 +122,19 @@ pub fn end_frame(out: &mut Row<u8>)
 /// Two ends that both stand over the same octets, neither a fault of the source nor want of memory,
 /// are the same end and leave the same rest. So each of them comes exactly where its rule holds.
 pub fn frame_end_is_one()
-    ensures { (bytes : List ℕ) (a b : FrameEnd) (left other : Option (List ℕ)) → IsFrameDecided a → IsFrameDecided b → FrameGives bytes a left → FrameGives bytes b other → (a ≡ b) × (left ≡ other) }
+    ensures { (bytes : List ℕ) (a b : FrameEnd) (left other : Option (List ℕ)) → IsFrameDecided a
+        → IsFrameDecided b → FrameGives bytes a left → FrameGives bytes b other
+        → (a ≡ b) × (left ≡ other) }
 {}
 
 /// The law that a frame ends in one place: octets begin with one frame at most.
 pub fn frames_split()
-    ensures { (a b x y : List ℕ) → length a ≤ FRAME_LIMIT → length b ≤ FRAME_LIMIT → frame a ++ x ≡ frame b ++ y → (a ≡ b) × (x ≡ y) }
+    ensures { (a b x y : List ℕ) → length a ≤ FRAME_LIMIT → length b ≤ FRAME_LIMIT
+        → frame a ++ x ≡ frame b ++ y → (a ≡ b) × (x ≡ y) }
 {}
 
 /// The law that octets are the frames of one list at most.
 pub fn frames_are_one()
-    ensures { (fs gs : List (List ℕ)) → All (λ f. length f ≤ FRAME_LIMIT) fs → All (λ g. length g ≤ FRAME_LIMIT) gs → flat_map frame fs ≡ flat_map frame gs → fs ≡ gs }
+    ensures { (fs gs : List (List ℕ)) → All (λ f. length f ≤ FRAME_LIMIT) fs
+        → All (λ g. length g ≤ FRAME_LIMIT) gs → flat_map frame fs ≡ flat_map frame gs → fs ≡ gs }
 {}

@@ -43,5 +43,6 @@ fn refusal(error: FromHexError) -> ReadError
 
 /// The law that reading digits gives back the octets that were written, or wants memory.
 pub fn hex_comes_back()
-    ensures { (octets : List ℕ) (answer : Result (List ℕ) ReadError) → IsBytes octets → ReadsHex (hex octets) answer → (answer ≡ Ok octets) ⊎ (answer ≡ Err ReadError.NoMemory) }
+    ensures { (octets : List ℕ) (answer : Result (List ℕ) ReadError) → IsBytes octets
+        → ReadsHex (hex octets) answer → (answer ≡ Ok octets) ⊎ (answer ≡ Err ReadError.NoMemory) }
 {}

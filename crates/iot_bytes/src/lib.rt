@@ -1,8 +1,8 @@
 //! Rows, sources, sinks and the digits of tokens: the floor that all parts stand on.
 //!
-//! Octets come from a [`Source`] in frames or lines and go to a [`Sink`]. What was read is the front
-//! of what the source still had, what was sent is appended, and a fault is answered only where the
-//! object's count of faults rose in that call.
+//! Octets come from a [`Source`] in frames or lines and go to a [`Sink`]. What was read is the
+//! front of what the source still had, what was sent is appended, and a fault is answered only
+//! where the object's count of faults rose in that call.
 #![tactic(auto)]
 
 mod decimal;

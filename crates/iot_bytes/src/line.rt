@@ -34,7 +34,8 @@ enum Next {
 }
 
 fn next_octet<S: Source>(source: &mut S) -> Next
-    ensures octets { (bytes : List ℕ) → S.rest source.old ≡ Some bytes → NextGives bytes result (S.rest source.new) }
+    ensures octets { (bytes : List ℕ) → S.rest source.old ≡ Some bytes
+        → NextGives bytes result (S.rest source.new) }
     ensures untold { S.rest source.old ≡ None → S.rest source.new ≡ None }
     ensures monotone { S.faults source.old ≤ S.faults source.new }
     ensures fault { result ≡ Next.Fault → Rose (S.faults source.old) (S.faults source.new) }
@@ -53,7 +54,8 @@ fn next_octet<S: Source>(source: &mut S) -> Next
 /// is buffered.
 pub fn read_line<S: Source>(alloc: Global, source: &mut S, limit: usize) -> LineEnd
     requires { limit ≤ LINE_LIMIT }
-    ensures octets { (bytes : List ℕ) → S.rest source.old ≡ Some bytes → LineGives bytes limit result (S.rest source.new) }
+    ensures octets { (bytes : List ℕ) → S.rest source.old ≡ Some bytes
+        → LineGives bytes limit result (S.rest source.new) }
     ensures untold { S.rest source.old ≡ None → S.rest source.new ≡ None }
     ensures monotone { S.faults source.old ≤ S.faults source.new }
     ensures fault { result ≡ LineEnd.ReadFault → Rose (S.faults source.old) (S.faults source.new) }
@@ -82,5 +84,7 @@ pub fn read_line<S: Source>(alloc: Global, source: &mut S, limit: usize) -> Line
 /// Two ends that both stand over the same octets, neither a fault of the source nor want of memory,
 /// are the same end and leave the same rest. So each of them comes exactly where its rule holds.
 pub fn line_end_is_one()
-    ensures { (bytes : List ℕ) (limit : ℕ) (a b : LineEnd) (left other : Option (List ℕ)) → IsLineDecided a → IsLineDecided b → LineGives bytes limit a left → LineGives bytes limit b other → (a ≡ b) × (left ≡ other) }
+    ensures { (bytes : List ℕ) (limit : ℕ) (a b : LineEnd) (left other : Option (List ℕ))
+        → IsLineDecided a → IsLineDecided b → LineGives bytes limit a left
+        → LineGives bytes limit b other → (a ≡ b) × (left ≡ other) }
 {}

@@ -1,6 +1,7 @@
 //! A sink in memory.
 
-ghost use Rattle.std.specs.Prelude.{◌≡◌, ◌<◌, ◌≤◌, ◌-◌, ◌↔◌, ◌⊎◌, [], IsErr, IfOk, OnErr, Contains, min, List, ℕ, length, Some, Option, None};
+ghost use Rattle.std.specs.Prelude.{◌≡◌, ◌<◌, ◌≤◌, ◌-◌, ◌↔◌, ◌⊎◌, [], IsErr, IfOk, OnErr, Contains};
+ghost use Rattle.std.specs.Prelude.{min, List, ℕ, length, Some, Option, None};
 ghost use Rattle.iot_bytes.specs.Causes.{Counts, HasCause};
 ghost use Rattle.iot_bytes.specs.Streams.{Writes};
 ghost use Rattle.iot_bytes.specs.InMemory.{OutputCalled};
@@ -32,14 +33,15 @@ impl Model for MemSink {
 
     ghost view = { λ s. record { taken = s.taken.items; room = s.room; piece = s.piece; failing = s.failing; calls = s.calls; faults = s.faults } };
 
-    ghost invariant = { λ s. (length s.taken.items ≤ s.room) × (s.room ≤ length s.taken.items + s.taken.spare) × (1 ≤ s.piece) };
+    ghost invariant = { λ s. (length s.taken.items ≤ s.room)
+        × (s.room ≤ length s.taken.items + s.taken.spare) × (1 ≤ s.piece) };
 }
 
 impl MemSink {
     /// A sink that takes up to `room` octets in all, and at most `piece` of them a call.
     ///
-    /// The calls whose numbers, from 0, stand in `failing` fail, and each call once `room` octets are
-    /// taken. It takes all its memory here.
+    /// The calls whose numbers, from 0, stand in `failing` fail, and each call once `room` octets
+    /// are taken. It takes all its memory here.
     pub fn new(
         alloc: Global,
         room: usize,
@@ -47,7 +49,9 @@ impl MemSink {
         failing: Row<u64>,
     ) -> Result<MemSink, NoMemory>
         requires { 1 ≤ piece }
-        ensures { IfOk result (λ sink. sink ≡ record { taken = []; room = room; piece = piece; failing = failing; calls = 0; faults = 0 }) }
+        ensures { IfOk result
+            (λ sink. sink
+            ≡ record { taken = []; room = room; piece = piece; failing = failing; calls = 0; faults = 0 }) }
     {
         Ok(MemSink {
             taken: Reserve::with_room(alloc, room)?,
@@ -78,8 +82,10 @@ impl Sink for MemSink {
         ensures bound { IfOk result (λ n. n ≤ length bytes.now) }
         ensures octets { Writes (Some self.old.taken) (Some self.new.taken) result bytes.now }
         ensures cause { HasCause self.old.faults self.new.faults result }
-        ensures fails { IsErr result ↔ (Contains self.old.failing self.old.calls ⊎ (length self.old.taken ≡ self.old.room)) }
-        ensures takes { IfOk result (λ n. n ≡ min (min (length bytes.now) self.old.piece) (self.old.room - length self.old.taken)) }
+        ensures fails { IsErr result ↔ (Contains self.old.failing self.old.calls ⊎
+            (length self.old.taken ≡ self.old.room)) }
+        ensures takes { IfOk result (λ n. n ≡ min (min (length bytes.now) self.old.piece)
+            (self.old.room - length self.old.taken)) }
         ensures called { OutputCalled self.old self.new }
         ensures counts { Counts self.old.faults self.new.faults result }
     {

@@ -1,6 +1,7 @@
 //! A source in memory.
 
-ghost use Rattle.std.specs.Prelude.{◌≡◌, ◌<◌, ◌≤◌, ◌↔◌, IsErr, IfOk, Contains, min, List, ℕ, length, Some, Option, None, drop};
+ghost use Rattle.std.specs.Prelude.{◌≡◌, ◌<◌, ◌≤◌, ◌↔◌, IsErr, IfOk, Contains, min, List, ℕ};
+ghost use Rattle.std.specs.Prelude.{length, Some, Option, None, drop};
 ghost use Rattle.iot_bytes.specs.Causes.{Counts, HasCause};
 ghost use Rattle.iot_bytes.specs.Streams.{Reads};
 ghost use Rattle.iot_bytes.specs.InMemory.{InputCalled};
@@ -62,7 +63,8 @@ impl Source for MemSource {
         ensures octets { Reads (Some self.old.left) (Some self.new.left) result out.new }
         ensures cause { HasCause self.old.faults self.new.faults result }
         ensures fails { IsErr result ↔ Contains self.old.failing self.old.calls }
-        ensures gives { IfOk result (λ n. n ≡ min (min (length out.new) self.old.piece) (length self.old.left)) }
+        ensures gives { IfOk result (λ n. n ≡ min (min (length out.new) self.old.piece)
+            (length self.old.left)) }
         ensures called { InputCalled self.old self.new }
         ensures counts { Counts self.old.faults self.new.faults result }
     {

@@ -1,6 +1,8 @@
 //! The list whose spare room contracts see.
 
-ghost use Rattle.std.specs.Prelude.{◌≡◌, [], ◌∷◌, ◌++◌, ◌<◌, ◌+◌, ◌-◌, ◌≤◌, ◌↔◌, length, take, drop, slice_get, slice_set, remove, IsTrue, IsOk, IfOk, OnOk, OnErr, IfErr};
+ghost use Rattle.std.specs.Prelude.{◌≡◌, [], ◌∷◌, ◌++◌, ◌<◌, ◌+◌, ◌-◌, ◌≤◌, ◌↔◌, length, take};
+ghost use Rattle.std.specs.Prelude.{drop, slice_get, slice_set, remove, IsTrue, IsOk, IfOk, OnOk};
+ghost use Rattle.std.specs.Prelude.{OnErr, IfErr};
 
 use crate::memory::NoMemory;
 use crate::row::Row;
@@ -132,7 +134,8 @@ impl<T> Reserve<T> {
         self.inner.as_slice()
     }
 
-    /// Takes memory until the spare room is at least `more`. It asks for none where there is as much.
+    /// Takes memory until the spare room is at least `more`. It asks for none where there is as
+    /// much.
     pub fn room(&mut self, more: usize) -> Result<(), NoMemory>
         ensures items { self.new.items ≡ self.old.items }
         ensures spare { OnOk result (more ≤ self.new.spare) }

@@ -1,6 +1,7 @@
 //! The list of the public surface.
 
-ghost use Rattle.std.specs.Prelude.{◌≡◌, [], ◌<◌, ◌≤◌, ◌↔◌, length, take, slice_get, slice_set, remove, IsTrue, IfOk};
+ghost use Rattle.std.specs.Prelude.{◌≡◌, [], ◌<◌, ◌≤◌, ◌↔◌, length, take, slice_get, slice_set};
+ghost use Rattle.std.specs.Prelude.{remove, IsTrue, IfOk};
 ghost use Rattle.std.specs.Borrow.{Lends, sem};
 ghost use Rattle.iot_bytes.specs.contracts.row.Row.{the_row};
 ghost use Rattle.iot_bytes.specs.contracts.reserve.Reserve.{the_row as held_row};
@@ -148,7 +149,8 @@ impl<T> DerefMut for Row<T> {
     ghost deref_mut_gives = { λ row held. held.items ≡ row };
 
     fn deref_mut(&mut self) -> &mut Reserve<T>
-        ensures* writes_back { sem 𝓛 (Lends (the_row T.row) (held_row T.row) self.entry result (λ left. left.items)) }
+        ensures* writes_back { sem 𝓛 (Lends (the_row T.row) (held_row T.row) self.entry result
+            (λ left. left.items)) }
         ensures items { result.now.items ≡ self.old }
     {
         &mut self.held

@@ -1,6 +1,7 @@
 //! Where octets come from.
 
-ghost use Rattle.std.specs.Prelude.{◌≡◌, ℕ, ◌+◌, ◌<◌, ◌≤◌, List, [], length, take, drop, Option, Some, None, IfOk};
+ghost use Rattle.std.specs.Prelude.{◌≡◌, ℕ, ◌+◌, ◌<◌, ◌≤◌, List, [], length, take, drop, Option};
+ghost use Rattle.std.specs.Prelude.{Some, None, IfOk};
 ghost use Rattle.iot_bytes.specs.Causes.{HasCause};
 ghost use Rattle.iot_bytes.specs.Streams.{Reads};
 

@@ -50,7 +50,8 @@ impl<W: Write> Sink for StdSink<W> {
         ensures cause { HasCause self.old.faults self.new.faults result }
 
         // What the writer knows of its bytes is passed on, and each failure is counted.
-        ensures passes { WriteAppends (W.contents self.old.inner) (W.contents self.new.inner) result bytes.now }
+        ensures passes { WriteAppends (W.contents self.old.inner)
+            (W.contents self.new.inner) result bytes.now }
         ensures counts { Counts self.old.faults self.new.faults result }
     {
         match self.writer.write(bytes) {

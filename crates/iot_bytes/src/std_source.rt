@@ -47,7 +47,8 @@ impl<R: Read> Source for StdSource<R> {
         ensures cause { HasCause self.old.faults self.new.faults result }
 
         // What the reader knows of its bytes is passed on, and each failure is counted.
-        ensures passes { ReadConsumes (R.remaining self.old.inner) (R.remaining self.new.inner) result out.new }
+        ensures passes { ReadConsumes (R.remaining self.old.inner)
+            (R.remaining self.new.inner) result out.new }
         ensures counts { Counts self.old.faults self.new.faults result }
     {
         let Ok(n) = self.reader.read(out) else {

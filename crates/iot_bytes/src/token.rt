@@ -8,11 +8,12 @@ const SPACE: u8 = b' ';
 
 /// The bounds of the token that begins at `at`: where it begins, and where it has ended.
 ///
-/// It ends before the next space or at the line's end, and is empty where a space stands at `at`. None
-/// exactly at the line's end. It takes no memory.
+/// It ends before the next space or at the line's end, and is empty where a space stands at `at`.
+/// None exactly at the line's end. It takes no memory.
 pub fn next_token(line: &[u8], at: usize) -> Option<(usize, usize)>
     requires { at ≤ length line.now }
-    ensures { MatchOption result (at ≡ length line.now) (λ bounds. IsToken line.now at bounds.0 bounds.1) }
+    ensures { MatchOption result (at ≡ length line.now)
+        (λ bounds. IsToken line.now at bounds.0 bounds.1) }
 {
     let rest = &line[at..];
     if rest.is_empty() {
@@ -31,5 +32,7 @@ fn first_space(rest: &[u8]) -> Option<usize>
 /// The law that a token stands where it was put: between what is before it and a space, or the
 /// line's end.
 pub fn token_stands()
-    ensures { (front token rest : List ℕ) → NoSpace token → (token_at (front ++ (token ++ 32 ∷ rest)) (length front) ≡ token) × (token_at (front ++ token) (length front) ≡ token) }
+    ensures { (front token rest : List ℕ) → NoSpace token
+        → (token_at (front ++ (token ++ 32 ∷ rest)) (length front) ≡ token)
+        × (token_at (front ++ token) (length front) ≡ token) }
 {}

@@ -1,6 +1,7 @@
 //! The top call.
 
-ghost use Rattle.std.specs.Prelude.{◌≡◌, ◌≢◌, ◌↔◌, ◌⊎◌, ◌++◌, ℕ, List, map, string_bytes, Some, None};
+ghost use Rattle.std.specs.Prelude.{◌≡◌, ◌≢◌, ◌↔◌, ◌⊎◌, ◌++◌, ℕ, List, map, string_bytes, Some};
+ghost use Rattle.std.specs.Prelude.{None};
 ghost use Rattle.iot_bytes.specs.Causes.{Rose};
 ghost use Rattle.run_loop.specs.Edges.{edge, HasCauses};
 ghost use Rattle.run_loop.specs.Frames.{framed};
@@ -48,7 +49,8 @@ fn run_form<S: Source, K: Sink, B: Bench>(
         → ¬ Rose (B.sees bench.old).faults (B.sees bench.new).faults
         → (result ≡ 0) ⊎ (result ≡ 6) }
     ensures stops { (input : List ℕ) (fs : List (List ℕ)) (tail : List ℕ)
-        → S.rest source.old ≡ Some input → input ≡ framed fs ++ tail → HandledBy form (B.sees bench.old) fs
+        → S.rest source.old ≡ Some input → input ≡ framed fs ++ tail
+        → HandledBy form (B.sees bench.old) fs
         → ¬ Rose (S.faults source.old) (S.faults source.new)
         → ¬ Rose (K.faults sink.old) (K.faults sink.new)
         → ¬ Rose (B.sees bench.old).faults (B.sees bench.new).faults
@@ -96,8 +98,8 @@ pub fn run<S: Source, K: Sink, B: Bench>(
     ensures untouched_bench { form_of (map string_bytes words.now) ≢ Some Form.Card
         → bench.new ≡ bench.old }
     // Whole frames within the limits that the form handles are answered to their end where no call
-    // on the source, the sink or the bench fails and memory suffices: of `card` the bench stands for
-    // a card or the first one makes it, and of `eim` and `ipa` each is in the grammar.
+    // on the source, the sink or the bench fails and memory suffices: of `card` the bench stands
+    // for a card or the first one makes it, and of `eim` and `ipa` each is in the grammar.
     ensures complete { (form : Form) (input : List ℕ) (fs : List (List ℕ))
         → form_of (map string_bytes words.now) ≡ Some form
         → S.rest source.old ≡ Some input → input ≡ framed fs → HandledBy form (B.sees bench.old) fs
@@ -110,7 +112,8 @@ pub fn run<S: Source, K: Sink, B: Bench>(
     // frame outside the grammar.
     ensures stops { (form : Form) (input : List ℕ) (fs : List (List ℕ)) (tail : List ℕ)
         → form_of (map string_bytes words.now) ≡ Some form
-        → S.rest source.old ≡ Some input → input ≡ framed fs ++ tail → HandledBy form (B.sees bench.old) fs
+        → S.rest source.old ≡ Some input → input ≡ framed fs ++ tail
+        → HandledBy form (B.sees bench.old) fs
         → ¬ Rose (S.faults source.old) (S.faults source.new)
         → ¬ Rose (K.faults sink.old) (K.faults sink.new)
         → ¬ Rose (B.sees bench.old).faults (B.sees bench.new).faults

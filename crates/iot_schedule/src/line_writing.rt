@@ -4,7 +4,10 @@ ghost use Rattle.std.specs.Prelude.{◌≡◌, ◌++◌, [], ◌∷◌, length, 
 ghost use Rattle.std.specs.List.{flat_map};
 ghost use Rattle.std.specs.Fmt.{decimal};
 ghost use Rattle.iot_schedule.specs.Words.{joined, spaced};
-ghost use Rattle.iot_schedule.specs.Spelling.{address_text, key_text, pick_text, bytes_text, tear_text, verdict_words, good_text, probe_text, profile_text, profile_entry, device_text, step_text, body_words};
+ghost use Rattle.iot_schedule.specs.Spelling.{address_text, key_text, pick_text, bytes_text};
+ghost use Rattle.iot_schedule.specs.Spelling.{tear_text, verdict_words, good_text, probe_text};
+ghost use Rattle.iot_schedule.specs.Spelling.{profile_text, profile_entry, device_text, step_text};
+ghost use Rattle.iot_schedule.specs.Spelling.{body_words};
 
 use crate::operation_writing::put_body;
 use crate::token_writing::{
@@ -37,7 +40,8 @@ fn put_named(out: &mut Row<u8>, keyword: &[u8], id: &EimId) -> Result<(), NoMemo
 
 #[tactic(auto, using(crate::proofs::Appending::appended))]
 fn put_initial(out: &mut Row<u8>, id: &EimId, address: &Address, key: &Key) -> Result<(), NoMemory>
-    ensures ok { OnOk result (out.new ≡ out.old ++ joined (codes "initial" ∷ id.now ∷ address_text address.now ∷ key_text key.now ∷ [])) }
+    ensures ok { OnOk result (out.new ≡ out.old
+        ++ joined (codes "initial" ∷ id.now ∷ address_text address.now ∷ key_text key.now ∷ [])) }
     ensures err { OnErr result (take (length out.old) out.new ≡ out.old) }
 {
     put_front(out, b"initial", id)?;
@@ -47,7 +51,8 @@ fn put_initial(out: &mut Row<u8>, id: &EimId, address: &Address, key: &Key) -> R
 
 #[tactic(auto, using(crate::proofs::Appending::appended))]
 fn put_bind(out: &mut Row<u8>, id: &EimId, association: u32, last: u64) -> Result<(), NoMemory>
-    ensures ok { OnOk result (out.new ≡ out.old ++ joined (codes "bind" ∷ id.now ∷ decimal association ∷ decimal last ∷ [])) }
+    ensures ok { OnOk result (out.new ≡ out.old
+        ++ joined (codes "bind" ∷ id.now ∷ decimal association ∷ decimal last ∷ [])) }
     ensures err { OnErr result (take (length out.old) out.new ≡ out.old) }
 {
     put_front(out, b"bind", id)?;
@@ -57,7 +62,8 @@ fn put_bind(out: &mut Row<u8>, id: &EimId, association: u32, last: u64) -> Resul
 
 #[tactic(auto, using(crate::proofs::Appending::appended))]
 fn put_order(out: &mut Row<u8>, id: &EimId, body: &Body) -> Result<(), NoMemory>
-    ensures ok { OnOk result (out.new ≡ out.old ++ joined (codes "order" ∷ id.now ∷ body_words body.now)) }
+    ensures ok { OnOk result (out.new ≡ out.old
+        ++ joined (codes "order" ∷ id.now ∷ body_words body.now)) }
     ensures err { OnErr result (take (length out.old) out.new ≡ out.old) }
 {
     put_front(out, b"order", id)?;
@@ -83,7 +89,8 @@ fn put_verdict(out: &mut Row<u8>, good: bool) -> Result<(), NoMemory>
 
 #[tactic(auto, using(crate::proofs::Appending::appended))]
 fn put_down(out: &mut Row<u8>, pick: &Pick, good: bool) -> Result<(), NoMemory>
-    ensures ok { OnOk result (out.new ≡ out.old ++ joined (codes "down" ∷ pick_text pick.now ∷ verdict_words good)) }
+    ensures ok { OnOk result (out.new ≡ out.old
+        ++ joined (codes "down" ∷ pick_text pick.now ∷ verdict_words good)) }
     ensures err { OnErr result (take (length out.old) out.new ≡ out.old) }
 {
     out.append(b"down")?;
@@ -93,7 +100,8 @@ fn put_down(out: &mut Row<u8>, pick: &Pick, good: bool) -> Result<(), NoMemory>
 
 #[tactic(auto, using(crate::proofs::Appending::appended))]
 fn put_load(out: &mut Row<u8>, good: bool, bytes: &[u8]) -> Result<(), NoMemory>
-    ensures ok { OnOk result (out.new ≡ out.old ++ joined (codes "load" ∷ good_text good ∷ bytes_text bytes.now ∷ [])) }
+    ensures ok { OnOk result (out.new ≡ out.old
+        ++ joined (codes "load" ∷ good_text good ∷ bytes_text bytes.now ∷ [])) }
     ensures err { OnErr result (take (length out.old) out.new ≡ out.old) }
 {
     out.append(b"load")?;
@@ -103,7 +111,8 @@ fn put_load(out: &mut Row<u8>, good: bool, bytes: &[u8]) -> Result<(), NoMemory>
 
 #[tactic(auto, using(crate::proofs::Appending::appended))]
 fn put_probe(out: &mut Row<u8>, passed: bool) -> Result<(), NoMemory>
-    ensures ok { OnOk result (out.new ≡ out.old ++ joined (codes "probe" ∷ probe_text passed ∷ [])) }
+    ensures ok { OnOk result (out.new ≡ out.old
+        ++ joined (codes "probe" ∷ probe_text passed ∷ [])) }
     ensures err { OnErr result (take (length out.old) out.new ≡ out.old) }
 {
     out.append(b"probe")?;
@@ -112,7 +121,8 @@ fn put_probe(out: &mut Row<u8>, passed: bool) -> Result<(), NoMemory>
 
 #[tactic(auto, using(crate::proofs::Appending::appended))]
 fn put_cut(out: &mut Row<u8>, calls: u32, tear: Tear) -> Result<(), NoMemory>
-    ensures ok { OnOk result (out.new ≡ out.old ++ joined (codes "cut" ∷ decimal calls ∷ tear_text tear ∷ [])) }
+    ensures ok { OnOk result (out.new ≡ out.old
+        ++ joined (codes "cut" ∷ decimal calls ∷ tear_text tear ∷ [])) }
     ensures err { OnErr result (take (length out.old) out.new ≡ out.old) }
 {
     out.append(b"cut")?;
@@ -195,7 +205,8 @@ fn put_profiles(out: &mut Row<u8>, profiles: &[Profile]) -> Result<(), NoMemory>
 
 #[tactic(auto, using(crate::proofs::Appending::profiles_spaced))]
 fn put_profile_words(out: &mut Row<u8>, profiles: &[Profile]) -> Result<(), NoMemory>
-    ensures ok { OnOk result (out.new ≡ out.old ++ flat_map spaced (map profile_text profiles.now)) }
+    ensures ok { OnOk result (out.new ≡ out.old
+        ++ flat_map spaced (map profile_text profiles.now)) }
     ensures err { OnErr result (take (length out.old) out.new ≡ out.old) }
 {
     put_profiles(out, profiles)

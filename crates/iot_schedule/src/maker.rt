@@ -2,7 +2,10 @@
 
 ghost use Rattle.std.specs.Prelude.{◌≡◌, ◌<◌, ◌≤◌, ◌+◌, ◌^◌, ◌++◌, ℕ, length, take, OnOk, OnErr};
 ghost use Rattle.std.specs.Fmt.{decimal};
-ghost use Rattle.iot_schedule.specs.Making.{next_state, drawn, target_text, aimed_text, tear_name, cut_text, first_kinds, other_kinds, made_text, state_behind, head_text, line_text, state_after, state_before, made_line};
+ghost use Rattle.iot_schedule.specs.Making.{next_state, drawn, target_text, aimed_text, tear_name};
+ghost use Rattle.iot_schedule.specs.Making.{cut_text, first_kinds, other_kinds, made_text};
+ghost use Rattle.iot_schedule.specs.Making.{state_behind, head_text, line_text, state_after};
+ghost use Rattle.iot_schedule.specs.Making.{state_before, made_line};
 
 use iot_bytes::{NoMemory, Row, put_decimal};
 

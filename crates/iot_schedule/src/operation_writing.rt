@@ -1,11 +1,13 @@
-//! Writing the operations of an order. Where memory runs out, a front of what is written may be left
-//! behind what was there before.
+//! Writing the operations of an order. Where memory runs out, a front of what is written may be
+//! left behind what was there before.
 
 ghost use Rattle.std.specs.Prelude.{◌≡◌, ◌++◌, length, take, OnOk, OnErr};
 ghost use Rattle.std.specs.List.{flat_map};
 ghost use Rattle.small_card.specs.declared.types.Eco.{Eco};
 ghost use Rattle.iot_schedule.specs.Words.{spaced};
-ghost use Rattle.iot_schedule.specs.Spelling.{address_text, key_text, optional_text, enable_text, psmo_text, eco_text, psmo_entry, eco_entry, body_words};
+ghost use Rattle.iot_schedule.specs.Spelling.{address_text, key_text, optional_text, enable_text};
+ghost use Rattle.iot_schedule.specs.Spelling.{psmo_text, eco_text, psmo_entry, eco_entry};
+ghost use Rattle.iot_schedule.specs.Spelling.{body_words};
 
 use crate::token_writing::put_digits;
 use iot_bytes::{NoMemory, Row};
@@ -71,7 +73,8 @@ fn put_update(
     address: &Option<Address>,
     key: &Option<Key>,
 ) -> Result<(), NoMemory>
-    ensures ok { OnOk result (out.new ≡ out.old ++ eco_text (Eco.Update id.now address.now key.now)) }
+    ensures ok { OnOk result (out.new ≡ out.old
+        ++ eco_text (Eco.Update id.now address.now key.now)) }
     ensures err { OnErr result (take (length out.old) out.new ≡ out.old) }
 {
     put_text(out, b"update:", id.octets())?;

@@ -5,7 +5,9 @@ ghost use Rattle.sgp_der.specs.Fields.{Gives};
 ghost use Rattle.sgp_values.specs.Reading.{eim_id_of, address_of};
 ghost use Rattle.iot_bytes.specs.declared.memory.ReadError.{ReadError};
 ghost use Rattle.iot_schedule.specs.Tokens.{key_digits};
-ghost use Rattle.iot_schedule.specs.Operations.{psmo_named, psmo_word, optional_of, add_of, update_of, drop_of, eco_named, eco_word, psmos_of, ecos_of, body_of};
+ghost use Rattle.iot_schedule.specs.Operations.{psmo_named, psmo_word, optional_of, add_of};
+ghost use Rattle.iot_schedule.specs.Operations.{update_of, drop_of, eco_named, eco_word, psmos_of};
+ghost use Rattle.iot_schedule.specs.Operations.{ecos_of, body_of};
 
 use crate::tokens::{ADDRESS, KEY, OBJECT, address, key, parted};
 use crate::words::{Word, Words, is};
@@ -86,7 +88,8 @@ fn add(alloc: Global, text: &[u8]) -> Result<Eco, ReadError>
 }
 
 fn optional_address(text: Option<&[u8]>) -> Result<Option<Address>, ReadError>
-    ensures { MatchOption text.entry (Gives result (optional_of address_of None)) (λ t. Gives result (optional_of address_of (Some t.now))) }
+    ensures { MatchOption text.entry (Gives result (optional_of address_of None))
+        (λ t. Gives result (optional_of address_of (Some t.now))) }
 {
     match text {
         None => Ok(None),
@@ -95,7 +98,8 @@ fn optional_address(text: Option<&[u8]>) -> Result<Option<Address>, ReadError>
 }
 
 fn optional_key(alloc: Global, digits: Option<&[u8]>) -> Result<Option<Key>, ReadError>
-    ensures { MatchOption digits.entry (Gives result (optional_of key_digits None)) (λ t. Gives result (optional_of key_digits (Some t.now))) }
+    ensures { MatchOption digits.entry (Gives result (optional_of key_digits None))
+        (λ t. Gives result (optional_of key_digits (Some t.now))) }
 {
     match digits {
         None => Ok(None),
@@ -155,7 +159,8 @@ impl Word for Eco {
 }
 
 fn is_psmo(alloc: Global, word: &[u8]) -> Result<bool, ReadError>
-    ensures { MatchResult result (λ is. is ≡ is_some (psmo_word word.now)) (λ e. e ≡ ReadError.NoMemory) }
+    ensures { MatchResult result (λ is. is ≡ is_some (psmo_word word.now))
+        (λ e. e ≡ ReadError.NoMemory) }
 {
     match Psmo::of_word(alloc, word) {
         Ok(_) => Ok(true),

@@ -4,7 +4,11 @@ ghost use Rattle.std.specs.Prelude.{◌≡◌, IfOk};
 ghost use Rattle.iot_schedule.specs.Ranges.{IsStep};
 ghost use Rattle.sgp_der.specs.Fields.{Gives};
 ghost use Rattle.iot_schedule.specs.declared.types.Line.{Line};
-ghost use Rattle.iot_schedule.specs.Steps.{eim_line, initial_line, bind_line, order_line, skip_line, kept_line, poll_line, up_line, verdict_of, down_line, load_line, probe_line, cut_line, detach_line, bare_line, device_step, assistant_step, network_step, eim_step, step_line, step_at};
+ghost use Rattle.iot_schedule.specs.Steps.{eim_line, initial_line, bind_line, order_line};
+ghost use Rattle.iot_schedule.specs.Steps.{skip_line, kept_line, poll_line, up_line, verdict_of};
+ghost use Rattle.iot_schedule.specs.Steps.{down_line, load_line, probe_line, cut_line, detach_line};
+ghost use Rattle.iot_schedule.specs.Steps.{bare_line, device_step, assistant_step, network_step};
+ghost use Rattle.iot_schedule.specs.Steps.{eim_step, step_line, step_at};
 
 use crate::operations::body;
 use crate::types::Line;

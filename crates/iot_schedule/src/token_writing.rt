@@ -5,7 +5,8 @@ ghost use Rattle.std.specs.Prelude.{◌≡◌, ◌++◌, length, take, codes, On
 ghost use Rattle.std.specs.Fmt.{decimal};
 ghost use Rattle.iot_bytes.specs.Hexes.{hex};
 ghost use Rattle.iot_schedule.specs.Words.{spaced};
-ghost use Rattle.iot_schedule.specs.Spelling.{sign_text, profile_entry, pick_text, bytes_text, key_text, address_text, tear_text};
+ghost use Rattle.iot_schedule.specs.Spelling.{sign_text, profile_entry, pick_text, bytes_text};
+ghost use Rattle.iot_schedule.specs.Spelling.{key_text, address_text, tear_text};
 
 use crate::types::Pick;
 use chip_port::Tear;

@@ -1,10 +1,14 @@
 //! What one word spells.
 
 ghost use Rattle.std.specs.List.{position};
-ghost use Rattle.std.specs.Prelude.{◌≡◌, ◌==◌, ◌≤◌, ℕ, List, Option, None, Some, IfSome, MatchOption};
+ghost use Rattle.std.specs.Prelude.{◌≡◌, ◌==◌, ◌≤◌, ℕ, List, Option, None, Some, IfSome};
+ghost use Rattle.std.specs.Prelude.{MatchOption};
 ghost use Rattle.sgp_der.specs.Fields.{Gives};
 ghost use Rattle.sgp_values.specs.Reading.{address_of};
-ghost use Rattle.iot_schedule.specs.Tokens.{before, behind, marked, hex_of, decimal_of, number_of, eid_word, iccid_word, address_word, key_digits, key_word, sign_of, nickname_digits, profile_word, pick_word, bytes_word, choice_of, tear_word};
+ghost use Rattle.iot_schedule.specs.Tokens.{before, behind, marked, hex_of, decimal_of, number_of};
+ghost use Rattle.iot_schedule.specs.Tokens.{eid_word, iccid_word, address_word, key_digits};
+ghost use Rattle.iot_schedule.specs.Tokens.{key_word, sign_of, nickname_digits, profile_word};
+ghost use Rattle.iot_schedule.specs.Tokens.{pick_word, bytes_word, choice_of, tear_word};
 
 use crate::types::Pick;
 use crate::words::{Word, is};
@@ -81,7 +85,8 @@ fn place(text: &[u8], mark: u8) -> Option<usize>
 #[tactic(auto, using(crate::proofs::Parting::parting))]
 pub(crate) fn parted(text: &[u8], mark: u8) -> (&[u8], Option<&[u8]>)
     ensures before { result.0.now ≡ before mark text.now }
-    ensures behind { MatchOption result.1 (behind mark text.now ≡ None) (λ rest. behind mark text.now ≡ Some rest.now) }
+    ensures behind { MatchOption result.1 (behind mark text.now ≡ None)
+        (λ rest. behind mark text.now ≡ Some rest.now) }
 {
     match place(text, mark) {
         Some(at) => (&text[..at], Some(&text[at + 1..])),
@@ -91,7 +96,8 @@ pub(crate) fn parted(text: &[u8], mark: u8) -> (&[u8], Option<&[u8]>)
 
 /// What stands behind the mark that the word begins with.
 fn behind_mark(word: &[u8], mark: u8) -> Option<&[u8]>
-    ensures { MatchOption result (marked mark word.now ≡ None) (λ rest. marked mark word.now ≡ Some rest.now) }
+    ensures { MatchOption result (marked mark word.now ≡ None)
+        (λ rest. marked mark word.now ≡ Some rest.now) }
 {
     let (first, rest) = word.split_first()?;
     if *first == mark { Some(rest) } else { None }

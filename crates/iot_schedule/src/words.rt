@@ -1,9 +1,11 @@
 //! The words of a line, read from the left.
 
-ghost use Rattle.std.specs.Prelude.{◌≡◌, ◌≤◌, length, [], ◌∷◌, List, Option, ℕ, None, Some, MatchOption, IfOk, MatchBool, ◌≢◌};
+ghost use Rattle.std.specs.Prelude.{◌≡◌, ◌≤◌, length, [], ◌∷◌, List, Option, ℕ, None, Some};
+ghost use Rattle.std.specs.Prelude.{MatchOption, IfOk, MatchBool, ◌≢◌};
 ghost use Rattle.iot_bytes.specs.Tokens.{token_at};
 ghost use Rattle.sgp_der.specs.Fields.{Gives};
-ghost use Rattle.iot_schedule.specs.Words.{words, words_behind, word_at, last_word, no_word, list_of, GivesWord};
+ghost use Rattle.iot_schedule.specs.Words.{words, words_behind, word_at, last_word, no_word};
+ghost use Rattle.iot_schedule.specs.Words.{list_of, GivesWord};
 ghost use Rattle.small_card.specs.Lists.{same};
 ghost use Rattle.iot_schedule.specs.Tokens.{number_of, choice_of};
 
@@ -77,7 +79,8 @@ pub(crate) fn keyword(text: &[u8]) -> (&[u8], Words<'_>)
 impl<'a> Words<'a> {
     /// The next word.
     pub fn take(&mut self) -> Option<&'a [u8]>
-        ensures { MatchOption result ((self.old ≡ []) × (self.new ≡ [])) (λ word. self.old ≡ word.now ∷ self.new) }
+        ensures { MatchOption result ((self.old ≡ []) × (self.new ≡ []))
+            (λ word. self.old ≡ word.now ∷ self.new) }
     {
         let (_space, text) = self.rest.split_first()?;
         let (word, rest) = first_word(text);
@@ -87,7 +90,8 @@ impl<'a> Words<'a> {
 
     /// The next word, which stays to be read.
     pub fn first(&self) -> Option<&'a [u8]>
-        ensures { MatchOption result (self.now ≡ []) (λ word. (others : List (List ℕ)) × (self.now ≡ word.now ∷ others)) }
+        ensures { MatchOption result (self.now ≡ [])
+            (λ word. (others : List (List ℕ)) × (self.now ≡ word.now ∷ others)) }
     {
         let (_space, text) = self.rest.split_first()?;
         let (word, _rest) = first_word(text);

@@ -1,11 +1,11 @@
 //! One loop over lines, for whatever handles them.
 //!
-//! A [`LinePart`] handles lines one after the other. The loop reads a line, has it handled and sends
-//! its text before it reads the next one, so it holds one line at a time. At the end of the input it
-//! sends the part's closing text, and where something else ends the run it writes the stop line.
-//! Limits, the order of causes, the stop line and the facts on faults stand here, once for all
-//! parts: a form of words gives its part, and says in [`LinePart`]'s ghost members what its lines
-//! did.
+//! A [`LinePart`] handles lines one after the other. The loop reads a line, has it handled and
+//! sends its text before it reads the next one, so it holds one line at a time. At the end of the
+//! input it sends the part's closing text, and where something else ends the run it writes the stop
+//! line. Limits, the order of causes, the stop line and the facts on faults stand here, once for
+//! all parts: a form of words gives its part, and says in [`LinePart`]'s ghost members what its
+//! lines did.
 #![tactic(auto)]
 
 mod halt;

@@ -45,7 +45,8 @@ fn bound(end: BindEnd) -> EimOutput
 
 #[tactic(auto, unfolding(part_records::specs::Ranges::IsEimOutput))]
 fn ordered(end: OrderEnd) -> Result<EimOutput, PartStop>
-    ensures given { MatchResult result (λ output. (output ≡ of_order end) × (end ≢ OrderEnd.NoMemory))
+    ensures given { MatchResult result (λ output. (output ≡ of_order end)
+        × (end ≢ OrderEnd.NoMemory))
         (λ stop. stop ≡ PartStop.NoMemory) }
     ensures range { IfOk result IsEimOutput }
 {

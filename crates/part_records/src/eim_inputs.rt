@@ -1,5 +1,5 @@
-//! What comes to a manager. Each is one line of [`Record`]'s reader; what has no other tag may be an
-//! order, which is the operations of a package.
+//! What comes to a manager. Each is one line of [`Record`]'s reader; what has no other tag may be
+//! an order, which is the operations of a package.
 
 ghost use Rattle.std.specs.Prelude.{◌≡◌, Some};
 ghost use Rattle.std.specs.Prelude.{IfOk, IsErrOf};

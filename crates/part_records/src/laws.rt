@@ -17,8 +17,8 @@ pub fn inputs_are_read_back()
     ensures ipa_again { ReadAgain ipa_input_at ipa_input IsFramable }
 {}
 
-/// What comes to a manager has one spelling, and no spelling is a proper prefix of another; the same
-/// of what comes to an assistant.
+/// What comes to a manager has one spelling, and no spelling is a proper prefix of another; the
+/// same of what comes to an assistant.
 pub fn inputs_have_one_spelling()
     ensures eim { OneSpelling eim_input IsEimInput }
     ensures ipa { OneSpelling ipa_input IsFramable }
@@ -30,8 +30,8 @@ pub fn outputs_are_short()
     ensures ipa { (x : Deeds) → AreDeeds x → length (deeds x) ≤ 16777220 }
 {}
 
-/// What a manager gives has one spelling, and no spelling is a proper prefix of another; the same of
-/// what an assistant does.
+/// What a manager gives has one spelling, and no spelling is a proper prefix of another; the same
+/// of what an assistant does.
 pub fn outputs_have_one_spelling()
     ensures eim { OneSpelling eim_output IsEimOutput }
     ensures ipa { OneSpelling deeds IsSaid }

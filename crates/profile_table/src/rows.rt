@@ -1,7 +1,8 @@
 //! Changes of a table's list, in place.
 
 ghost use Rattle.std.specs.Prelude.{◌≡◌, false, position};
-ghost use Rattle.small_card.specs.Profiles.{is_iccid, with_state, enabled_alone, none_enabled, without_profile};
+ghost use Rattle.small_card.specs.Profiles.{is_iccid, with_state, enabled_alone, none_enabled};
+ghost use Rattle.small_card.specs.Profiles.{without_profile};
 ghost use Rattle.small_card.specs.Ranges.{IsTable};
 
 use iot_bytes::Row;

@@ -110,7 +110,8 @@ impl Table {
     /// before.
     #[tactic(auto, unfolding(small_card::specs::Profiles::do_psmo))]
     pub fn enable(&mut self, iccid: &Iccid) -> u8
-        ensures operation { (self.new, item.Enable result) ≡ do_psmo None [] self.old (psmo.Enable iccid.now false) }
+        ensures operation { (self.new, item.Enable result)
+            ≡ do_psmo None [] self.old (psmo.Enable iccid.now false) }
         ensures refused { result ≢ 0 → self.new ≡ self.old }
     {
         if !self.has(iccid) {
@@ -129,7 +130,8 @@ impl Table {
     /// enabled.
     #[tactic(auto, unfolding(small_card::specs::Profiles::do_psmo))]
     pub fn disable(&mut self, iccid: &Iccid) -> u8
-        ensures operation { (self.new, item.Disable result) ≡ do_psmo None [] self.old (psmo.Disable iccid.now) }
+        ensures operation { (self.new, item.Disable result)
+            ≡ do_psmo None [] self.old (psmo.Disable iccid.now) }
         ensures refused { result ≢ 0 → self.new ≡ self.old }
     {
         if !self.has(iccid) {
@@ -144,12 +146,13 @@ impl Table {
 
     /// Deletes this profile, where no rollback is armed.
     ///
-    /// Gives the code of [`Item::Delete`](small_card::Item::Delete): 0 done, 1 not found, 2 enabled.
-    /// Code 3, for a profile that a rollback may give back, is the caller's: the table knows of no
-    /// rollback.
+    /// Gives the code of [`Item::Delete`](small_card::Item::Delete): 0 done, 1 not found, 2
+    /// enabled. Code 3, for a profile that a rollback may give back, is the caller's: the table
+    /// knows of no rollback.
     #[tactic(auto, unfolding(small_card::specs::Profiles::do_psmo, small_card::specs::Profiles::has_armed))]
     pub fn delete(&mut self, iccid: &Iccid) -> u8
-        ensures operation { (self.new, item.Delete result) ≡ do_psmo None [] self.old (psmo.Delete iccid.now) }
+        ensures operation { (self.new, item.Delete result)
+            ≡ do_psmo None [] self.old (psmo.Delete iccid.now) }
         ensures refused { result ≢ 0 → self.new ≡ self.old }
     {
         if !self.has(iccid) {
@@ -166,7 +169,8 @@ impl Table {
     #[tactic(auto, unfolding(small_card::specs::Profiles::do_psmo))]
     pub fn list(&self, alloc: Global) -> Result<Row<Profile>, NoMemory>
         ensures value { IfOk result (λ row. row ≡ self.now) }
-        ensures operation { IfOk result (λ row. (self.now, item.Profiles row) ≡ do_psmo None [] self.now psmo.List) }
+        ensures operation { IfOk result (λ row. (self.now, item.Profiles row)
+            ≡ do_psmo None [] self.now psmo.List) }
     {
         self.rows.copy(alloc)
     }

@@ -13,7 +13,8 @@ use small_card::{Item, Psmo};
 use std::alloc::Global;
 
 /// What a package's operations on profiles leave: the table, an item for each operation that was
-/// executed, and the profile that was enabled as the package began, where a rollback to it is armed.
+/// executed, and the profile that was enabled as the package began, where a rollback to it is
+/// armed.
 #[derive(Debug, Drop)]
 pub struct PsmoDone {
     pub table: Table,
@@ -41,7 +42,8 @@ fn run_all(
     ops: &[Psmo],
 ) -> Result<Executed, NoMemory>
     requires { former.now ≡ enabled_of table.old }
-    ensures { IfOk result (λ end. IsRun former.now table.old ops.now table.new end.items end.armed) }
+    ensures { IfOk result
+        (λ end. IsRun former.now table.old ops.now table.new end.items end.armed) }
 {
     let mut armed = false;
     let mut items = Reserve::with_room(alloc, ops.len())?.into_row();

@@ -91,7 +91,8 @@ pub(crate) fn perform(
     table: &mut Table,
     op: &Psmo,
 ) -> Result<Item, NoMemory>
-    ensures { IfOk result (λ it. (done : List Done) → arms former.now done ≡ armed → (table.new, it) ≡ do_psmo former.now done table.old op.now) }
+    ensures { IfOk result (λ it. (done : List Done) → arms former.now done ≡ armed
+        → (table.new, it) ≡ do_psmo former.now done table.old op.now) }
 {
     match op {
         Psmo::Enable { iccid, rollback: _ } => Ok(Item::Enable(table.enable(iccid))),

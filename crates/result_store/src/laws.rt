@@ -15,7 +15,8 @@ pub fn kept_until_removed()
         → stands rs cs (Some r) ≡ Some q → Contains (after_calls rs cs).pending q }
     ensures same { (rs : Results) (cs : List Call) (r q : PackageResult) → r.seq < rs.next
         → stands rs cs (Some r) ≡ Some q → IsSameResult r q }
-    ensures untouched { (rs : Results) (cs : List Call) (r : PackageResult) → Every (IsUntouched r.seq) cs
+    ensures untouched { (rs : Results) (cs : List Call) (r : PackageResult)
+        → Every (IsUntouched r.seq) cs
         → stands rs cs (Some r) ≡ Some r }
     ensures removed { (rs : Results) (cs : List Call) (r : PackageResult)
         → stands rs cs (Some r) ≡ None → WasRemoved rs cs r }
@@ -37,5 +38,6 @@ pub fn results_stand()
 
 /// Any calls whose conditions hold leave at most 8 results in rising numbers that were given out.
 pub fn stays_a_store()
-    ensures { (rs : Results) (cs : List Call) → IsStore rs → May rs cs → IsStore (after_calls rs cs) }
+    ensures { (rs : Results) (cs : List Call) → IsStore rs → May rs cs
+        → IsStore (after_calls rs cs) }
 {}

@@ -1,8 +1,8 @@
-//! The result store: the eUICC Package Results (SGP.32) that a card keeps until it is told that their
-//! manager has recorded them.
+//! The result store: the eUICC Package Results (SGP.32) that a card keeps until it is told that
+//! their manager has recorded them.
 //!
-//! At most 8 results are pending, in rising sequence numbers. Their memory is taken when the store is
-//! made, so that an accepted package, a rollback and a removal take none here.
+//! At most 8 results are pending, in rising sequence numbers. Their memory is taken when the store
+//! is made, so that an accepted package, a rollback and a removal take none here.
 #![tactic(auto)]
 
 mod laws;

@@ -1,6 +1,7 @@
 //! What the store does to the list of its results.
 
-ghost use Rattle.std.specs.Prelude.{◌≡◌, ◌<◌, ◌≤◌, ◌+◌, ◌++◌, ◌∷◌, [], length, map, filter, find, position, IfOk, IsSome};
+ghost use Rattle.std.specs.Prelude.{◌≡◌, ◌<◌, ◌≤◌, ◌+◌, ◌++◌, ◌∷◌, [], length, map, filter, find};
+ghost use Rattle.std.specs.Prelude.{position, IfOk, IsSome};
 ghost use Rattle.std.specs.List.{list_all};
 ghost use Rattle.std.specs.Option.{option_copied, option_to_list};
 ghost use Rattle.small_card.specs.Lists.{EveryPair, without};
@@ -77,7 +78,8 @@ fn with_mark(kept: PackageResult, number: u32) -> PackageResult
 
 pub(crate) fn mark_last(pending: &mut Reserve<PackageResult>, seq: u32, number: u32)
     requires { EveryPair IsBefore pending.old.items }
-    ensures items { pending.new.items ≡ without (has_seq seq) pending.old.items ++ map (with_mark number) (filter (has_seq seq) pending.old.items) }
+    ensures items { pending.new.items ≡ without (has_seq seq) pending.old.items
+        ++ map (with_mark number) (filter (has_seq seq) pending.old.items) }
     ensures memory { length pending.old.items + pending.old.spare ≤ length pending.new.items + pending.new.spare }
 {
     if let Some(kept) = take_out(pending, seq) {

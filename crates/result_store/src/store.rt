@@ -14,8 +14,8 @@ use small_card::{Item, PackageResult};
 use std::alloc::Global;
 use std::marker::Model;
 
-/// The greatest next number at which a result may come: its own number and that of its mark are left
-/// below the greatest of all.
+/// The greatest next number at which a result may come: its own number and that of its mark are
+/// left below the greatest of all.
 const LAST_WITH_ROOM: u32 = u32::MAX - 2;
 
 /// The pending results of a card in rising sequence numbers, at most 8, and the next number.
@@ -70,9 +70,9 @@ impl Store {
         })
     }
 
-    /// Whether these results and the next number may stand in a store, as [`Store::of`] wants it: at
-    /// most 8 results in rising numbers, each from 1 to below the next one, which is from 1. It takes
-    /// no memory.
+    /// Whether these results and the next number may stand in a store, as [`Store::of`] wants it:
+    /// at most 8 results in rising numbers, each from 1 to below the next one, which is from 1. It
+    /// takes no memory.
     #[tactic(auto, using(crate::proofs::Testing::tested_exactly))]
     pub fn fits(pending: &[PackageResult], next: u32) -> bool
         ensures exact { (result ≡ true) ↔ IsStore (record { pending = pending.now; next = next }) }

@@ -1,5 +1,6 @@
-//! One permitted rollback (ES10b.ProfileRollback of SGP.32): the former profile alone is enabled, and
-//! the result of the package that armed the rollback is marked under a new number. It takes no memory.
+//! One permitted rollback (ES10b.ProfileRollback of SGP.32): the former profile alone is enabled,
+//! and the result of the package that armed the rollback is marked under a new number. It takes no
+//! memory.
 #![tactic(auto)]
 
 mod laws;

@@ -25,7 +25,8 @@ pub struct Rolled {
 #[tactic(auto, unfolding(small_card::specs::Histories::full_of))]
 pub fn permitted(armed: &Option<Armed>) -> Option<&Armed>
     ensures armed { option_copied result ≡ armed.now }
-    ensures look_back { (h : History) → (full_of h).armed ≡ armed.now → option_copied result ≡ former_of h }
+    ensures look_back { (h : History) → (full_of h).armed ≡ armed.now
+        → option_copied result ≡ former_of h }
 {
     armed.as_ref()
 }
@@ -41,8 +42,8 @@ fn enable_alone(table: &mut Table, former: &Iccid)
 }
 
 /// Rolls back: the former profile alone is enabled, whatever is enabled now, and the result of the
-/// package that armed the rollback goes last, marked and under the next number. What was armed is used
-/// up. It takes no memory.
+/// package that armed the rollback goes last, marked and under the next number. What was armed is
+/// used up. It takes no memory.
 #[tactic(auto, using(crate::proofs::Marking::mark_goes_last), unfolding(small_card::specs::Steps::step_full, small_card::specs::Steps::armed_after, small_card::specs::Units::after_unit, small_card::specs::Units::rolled_back))]
 pub fn roll(mut table: Table, mut store: Store, armed: Armed) -> Rolled
     requires { MayRoll table store armed }
@@ -52,9 +53,14 @@ pub fn roll(mut table: Table, mut store: Store, armed: Armed) -> Rolled
     ensures number { result.seq ≡ store.next }
     ensures alone { IsAlone armed.former result.table }
     ensures last { IsMarkedLast armed.seq result.seq store.pending result.store.pending }
-    ensures unit { (f : FullCard) → f.card.profiles ≡ table → f.card.results ≡ store → f.armed ≡ Some armed
+    ensures unit { (f : FullCard) → f.card.profiles ≡ table → f.card.results ≡ store
+        → f.armed ≡ Some armed
         → step_full f rollback
-        ≡ record { card = record (f.card) { profiles = result.table; results = result.store }; armed = None } }
+        ≡ record {
+          card = record
+              (f.card) { profiles = result.table; results = result.store };
+          armed = None;
+        } }
 {
     store.in_range();
     enable_alone(&mut table, &armed.former);

@@ -1,4 +1,5 @@
-ghost use Rattle.std.specs.Prelude.{◌≡◌, OnErr, length, ℕ, List, Some, None, Ok, Err, MatchResult, IfOk, MatchOption, IfSome, ◌≤◌, ◌<◌};
+ghost use Rattle.std.specs.Prelude.{◌≡◌, OnErr, length, ℕ, List, Some, None, Ok, Err, MatchResult};
+ghost use Rattle.std.specs.Prelude.{IfOk, MatchOption, IfSome, ◌≤◌, ◌<◌};
 ghost use Rattle.sgp_der.specs.Element.{Begins, Tlv as IsElement};
 ghost use Rattle.sgp_der.specs.Reading.{len_at, element_at, Part};
 ghost use Rattle.sgp_der.specs.Fields.{field_at, only_at};
@@ -39,7 +40,8 @@ pub enum DerFault {
 
 // The length, which no shorter form can say.
 fn at_least(least: usize, n: usize, rest: &[u8]) -> Result<(usize, &[u8]), DerFault>
-    ensures { MatchResult result (λ x. (least ≤ n) × (x.0 ≡ n) × (x.1.now ≡ rest.now)) (λ e. (n < least) × (e ≡ DerFault.LongForm)) }
+    ensures { MatchResult result (λ x. (least ≤ n) × (x.0 ≡ n) × (x.1.now ≡ rest.now))
+        (λ e. (n < least) × (e ≡ DerFault.LongForm)) }
 {
     if n < least {
         return Err(DerFault::LongForm);
@@ -50,7 +52,8 @@ fn at_least(least: usize, n: usize, rest: &[u8]) -> Result<(usize, &[u8]), DerFa
 // The length, and the octets behind it.
 #[tactic(auto, unfolding(crate::specs::Reading::len_at))]
 fn definite_len(bytes: &[u8]) -> Result<(usize, &[u8]), DerFault>
-    ensures { MatchResult result (λ x. len_at bytes.now ≡ Ok (x.0, x.1.now)) (λ e. len_at bytes.now ≡ Err e) }
+    ensures { MatchResult result (λ x. len_at bytes.now ≡ Ok (x.0, x.1.now))
+        (λ e. len_at bytes.now ≡ Err e) }
 {
     match bytes {
         [] => Err(DerFault::Short),
@@ -72,7 +75,9 @@ fn definite_len(bytes: &[u8]) -> Result<(usize, &[u8]), DerFault>
 // The element at the front, or the first fault that is met.
 #[tactic(auto, unfolding(crate::specs::Reading::element_at))]
 fn split(bytes: &[u8]) -> Result<Tlv<'_>, DerFault>
-    ensures { MatchResult result (λ t. element_at bytes.now ≡ Ok (record { tag = t.tag; content = t.content.now; rest = t.rest.now })) (λ e. element_at bytes.now ≡ Err e) }
+    ensures { MatchResult result (λ t. element_at bytes.now
+        ≡ Ok (record { tag = t.tag; content = t.content.now; rest = t.rest.now }))
+        (λ e. element_at bytes.now ≡ Err e) }
 {
     match bytes {
         [] => Err(DerFault::Short),
@@ -97,8 +102,11 @@ fn split(bytes: &[u8]) -> Result<Tlv<'_>, DerFault>
 /// The element at the front (X.690, with at most three length octets).
 pub fn next(bytes: &[u8]) -> Result<Tlv<'_>, DerFault>
     ensures found { IfOk result (λ t. Begins bytes.now t.tag t.content.now t.rest.now) }
-    ensures only { OnErr result ((tag : ℕ) (content rest : List ℕ) → Begins bytes.now tag content rest → ⊥) }
-    ensures exact { MatchResult result (λ t. element_at bytes.now ≡ Ok (record { tag = t.tag; content = t.content.now; rest = t.rest.now })) (λ e. element_at bytes.now ≡ Err e) }
+    ensures only { OnErr result ((tag : ℕ) (content rest : List ℕ)
+        → Begins bytes.now tag content rest → ⊥) }
+    ensures exact { MatchResult result (λ t. element_at bytes.now
+        ≡ Ok (record { tag = t.tag; content = t.content.now; rest = t.rest.now }))
+        (λ e. element_at bytes.now ≡ Err e) }
 {
     split(bytes)
 }
@@ -108,8 +116,11 @@ pub fn next(bytes: &[u8]) -> Result<Tlv<'_>, DerFault>
 #[tactic(auto, unfolding(crate::specs::Fields::field_at))]
 pub fn field(bytes: &[u8], tag: u8) -> Option<Tlv<'_>>
     ensures tag { IfSome result (λ t. t.tag ≡ tag) }
-    ensures found { MatchOption result ((content rest : List ℕ) → Begins bytes.now tag content rest → ⊥) (λ t. Begins bytes.now tag t.content.now t.rest.now) }
-    ensures exact { MatchOption result (field_at tag bytes.now ≡ None) (λ t. field_at tag bytes.now ≡ Some (record { tag = t.tag; content = t.content.now; rest = t.rest.now })) }
+    ensures found { MatchOption result ((content rest : List ℕ) → Begins bytes.now tag content rest
+        → ⊥) (λ t. Begins bytes.now tag t.content.now t.rest.now) }
+    ensures exact { MatchOption result (field_at tag bytes.now ≡ None)
+        (λ t. field_at tag bytes.now
+        ≡ Some (record { tag = t.tag; content = t.content.now; rest = t.rest.now })) }
 {
     match next(bytes) {
         Ok(found) if found.tag == tag => Some(found),
@@ -120,8 +131,10 @@ pub fn field(bytes: &[u8], tag: u8) -> Option<Tlv<'_>>
 /// The content of the bytes, where they are one whole element of this tag.
 #[tactic(auto, unfolding(crate::specs::Fields::only_at))]
 pub fn only(bytes: &[u8], tag: u8) -> Option<&[u8]>
-    ensures found { MatchOption result ((content : List ℕ) → IsElement bytes.now tag content → ⊥) (λ content. IsElement bytes.now tag content.now) }
-    ensures exact { MatchOption result (only_at tag bytes.now ≡ None) (λ content. only_at tag bytes.now ≡ Some content.now) }
+    ensures found { MatchOption result ((content : List ℕ) → IsElement bytes.now tag content → ⊥)
+        (λ content. IsElement bytes.now tag content.now) }
+    ensures exact { MatchOption result (only_at tag bytes.now ≡ None)
+        (λ content. only_at tag bytes.now ≡ Some content.now) }
 {
     let found = field(bytes, tag)?;
     if found.rest.is_empty() {

@@ -18,9 +18,12 @@ pub fn elements_split()
 /// What `put_head`, `put_octets` and `put_uint` append is read again by `next`
 /// and `field`, whatever follows, and by `only`.
 pub fn elements_read_again()
-    ensures next { (tag : ℕ) (content rest : List ℕ) → IsTag tag → length content ≤ MOST_CONTENT → ReadAgain tag content rest }
-    ensures field { (tag : ℕ) (content rest : List ℕ) → IsTag tag → length content ≤ MOST_CONTENT → FieldAgain tag content rest }
-    ensures only { (tag : ℕ) (content : List ℕ) → IsTag tag → length content ≤ MOST_CONTENT → only_at tag (element tag content) ≡ Some content }
+    ensures next { (tag : ℕ) (content rest : List ℕ) → IsTag tag → length content ≤ MOST_CONTENT
+        → ReadAgain tag content rest }
+    ensures field { (tag : ℕ) (content rest : List ℕ) → IsTag tag → length content ≤ MOST_CONTENT
+        → FieldAgain tag content rest }
+    ensures only { (tag : ℕ) (content : List ℕ) → IsTag tag → length content ≤ MOST_CONTENT
+        → only_at tag (element tag content) ≡ Some content }
 {}
 
 /// A number has one content, which is its shortest two's complement: 1 to
@@ -36,5 +39,6 @@ pub fn integers_have_one_content()
 /// nothing else.
 pub fn integers_read_again()
     ensures again { (n : ℕ) → n < 2 ^ 64 → uint_of (uint n) ≡ Some n }
-    ensures exact { (content : List ℕ) (n : ℕ) → (uint_of content ≡ Some n) ↔ (IsUint content n × (n < 2 ^ 64)) }
+    ensures exact { (content : List ℕ) (n : ℕ) → (uint_of content ≡ Some n)
+        ↔ (IsUint content n × (n < 2 ^ 64)) }
 {}

@@ -27,7 +27,8 @@ fn value(content: &[u8]) -> u128
 /// number.
 #[tactic(auto, unfolding(crate::specs::Number::uint_of))]
 pub fn uint(content: &[u8]) -> Option<u64>
-    ensures number { MatchOption result ((n : ℕ) → n < 2 ^ 64 → IsUint content.now n → ⊥) (λ n. IsUint content.now n) }
+    ensures number { MatchOption result ((n : ℕ) → n < 2 ^ 64 → IsUint content.now n → ⊥)
+        (λ n. IsUint content.now n) }
     ensures exact { result ≡ uint_of content.now }
 {
     match content {

@@ -36,8 +36,10 @@ impl Address {
     /// `OutOfRange` where there are more than 128 octets, or where one is outside the alphabet.
     #[tactic(auto, using(crate::proofs::Reading::address_again, crate::proofs::Reading::address_refuses))]
     pub fn of(octets: &[u8]) -> Result<Address, OutOfRange>
-        ensures value { MatchResult result (λ address. IsAddress octets.now × (address ≡ octets.now)) (λ _. ¬ IsAddress octets.now) }
-        ensures exact { MatchResult result (λ address. address_of octets.now ≡ Some address) (λ _. address_of octets.now ≡ None) }
+        ensures value { MatchResult result (λ address. IsAddress octets.now
+            × (address ≡ octets.now)) (λ _. ¬ IsAddress octets.now) }
+        ensures exact { MatchResult result (λ address. address_of octets.now ≡ Some address)
+            (λ _. address_of octets.now ≡ None) }
     {
         if octets.len() > MAX_LENGTH || !are_address_octets(octets) {
             return Err(OutOfRange);

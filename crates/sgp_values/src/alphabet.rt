@@ -1,5 +1,5 @@
-//! The alphabets of identifiers and addresses. Each octet is looked at, with no early end, so that a
-//! compiler can test many at once.
+//! The alphabets of identifiers and addresses. Each octet is looked at, with no early end, so that
+//! a compiler can test many at once.
 ghost use Rattle.std.specs.Prelude.{◌≡◌, ◌&&◌, ◌↔◌, IsTrue, nat_le};
 ghost use Rattle.std.specs.List.{AllPass, list_all};
 ghost use Rattle.sgp_values.specs.Ranges.{is_name_octet, is_address_octet};

@@ -34,8 +34,10 @@ impl Eid {
     /// `OutOfRange` where there are not exactly 16 octets.
     #[tactic(auto, using(crate::proofs::Reading::eid_again, crate::proofs::Reading::eid_refuses))]
     pub fn of(octets: &[u8]) -> Result<Eid, OutOfRange>
-        ensures value { MatchResult result (λ id. IsEid octets.now × (id ≡ octets.now)) (λ _. ¬ IsEid octets.now) }
-        ensures exact { MatchResult result (λ id. eid_of octets.now ≡ Some id) (λ _. eid_of octets.now ≡ None) }
+        ensures value { MatchResult result (λ id. IsEid octets.now × (id ≡ octets.now))
+            (λ _. ¬ IsEid octets.now) }
+        ensures exact { MatchResult result (λ id. eid_of octets.now ≡ Some id)
+            (λ _. eid_of octets.now ≡ None) }
     {
         if octets.len() != LENGTH {
             return Err(OutOfRange);

@@ -38,8 +38,10 @@ impl EimId {
     /// outside the alphabet.
     #[tactic(auto, using(crate::proofs::Reading::eim_id_again, crate::proofs::Reading::eim_id_refuses))]
     pub fn of(octets: &[u8]) -> Result<EimId, OutOfRange>
-        ensures value { MatchResult result (λ id. IsEimId octets.now × (id ≡ octets.now)) (λ _. ¬ IsEimId octets.now) }
-        ensures exact { MatchResult result (λ id. eim_id_of octets.now ≡ Some id) (λ _. eim_id_of octets.now ≡ None) }
+        ensures value { MatchResult result (λ id. IsEimId octets.now × (id ≡ octets.now))
+            (λ _. ¬ IsEimId octets.now) }
+        ensures exact { MatchResult result (λ id. eim_id_of octets.now ≡ Some id)
+            (λ _. eim_id_of octets.now ≡ None) }
     {
         if octets.is_empty() || octets.len() > MAX_LENGTH || !are_names(octets) {
             return Err(OutOfRange);

@@ -34,8 +34,10 @@ impl Iccid {
     /// `OutOfRange` where there are not exactly 10 octets.
     #[tactic(auto, using(crate::proofs::Reading::iccid_again, crate::proofs::Reading::iccid_refuses))]
     pub fn of(octets: &[u8]) -> Result<Iccid, OutOfRange>
-        ensures value { MatchResult result (λ id. IsIccid octets.now × (id ≡ octets.now)) (λ _. ¬ IsIccid octets.now) }
-        ensures exact { MatchResult result (λ id. iccid_of octets.now ≡ Some id) (λ _. iccid_of octets.now ≡ None) }
+        ensures value { MatchResult result (λ id. IsIccid octets.now × (id ≡ octets.now))
+            (λ _. ¬ IsIccid octets.now) }
+        ensures exact { MatchResult result (λ id. iccid_of octets.now ≡ Some id)
+            (λ _. iccid_of octets.now ≡ None) }
     {
         if octets.len() != LENGTH {
             return Err(OutOfRange);

@@ -35,8 +35,10 @@ impl Key {
     /// `OutOfRange` where there are more than 128 octets.
     #[tactic(auto, using(crate::proofs::Reading::key_again, crate::proofs::Reading::key_refuses))]
     pub fn of(octets: &[u8]) -> Result<Key, OutOfRange>
-        ensures value { MatchResult result (λ key. IsKey octets.now × (key ≡ octets.now)) (λ _. ¬ IsKey octets.now) }
-        ensures exact { MatchResult result (λ key. key_of octets.now ≡ Some key) (λ _. key_of octets.now ≡ None) }
+        ensures value { MatchResult result (λ key. IsKey octets.now × (key ≡ octets.now))
+            (λ _. ¬ IsKey octets.now) }
+        ensures exact { MatchResult result (λ key. key_of octets.now ≡ Some key)
+            (λ _. key_of octets.now ≡ None) }
     {
         if octets.len() > MAX_LENGTH {
             return Err(OutOfRange);

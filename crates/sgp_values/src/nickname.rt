@@ -36,8 +36,10 @@ impl Nickname {
     /// `OutOfRange` where there are more than 64 octets, or where they are not UTF-8.
     #[tactic(auto, using(crate::proofs::Reading::nickname_again, crate::proofs::Reading::nickname_refuses))]
     pub fn of(octets: &[u8]) -> Result<Nickname, OutOfRange>
-        ensures value { MatchResult result (λ name. IsNickname octets.now × (name ≡ octets.now)) (λ _. ¬ IsNickname octets.now) }
-        ensures exact { MatchResult result (λ name. nickname_of octets.now ≡ Some name) (λ _. nickname_of octets.now ≡ None) }
+        ensures value { MatchResult result (λ name. IsNickname octets.now × (name ≡ octets.now))
+            (λ _. ¬ IsNickname octets.now) }
+        ensures exact { MatchResult result (λ name. nickname_of octets.now ≡ Some name)
+            (λ _. nickname_of octets.now ≡ None) }
     {
         if octets.len() > MAX_LENGTH || str::from_utf8(octets).is_err() {
             return Err(OutOfRange);

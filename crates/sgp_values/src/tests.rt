@@ -33,7 +33,8 @@ fn values_give_their_octets_back(rt: HostRuntime) -> Result<(), Fail> {
     Ok(())
 }
 
-// Whether an ICCID, an EID, an identifier, an address, a key and a nickname is made of these octets.
+// Whether an ICCID, an EID, an identifier, an address, a key and a nickname is made of these
+// octets.
 fn accepted(octets: &[u8]) -> [bool; 6] {
     [
         Iccid::of(octets).is_ok(),

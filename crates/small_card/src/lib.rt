@@ -1,5 +1,5 @@
-//! The small card: the types of eSIM management for IoT devices after SGP.32, the definitions of how
-//! the card behaves, and their laws. The rules are told in `docs/CARD.md`.
+//! The small card: the types of eSIM management for IoT devices after SGP.32, the definitions of
+//! how the card behaves, and their laws. The rules are told in `docs/CARD.md`.
 #![tactic(auto)]
 
 pub mod codes;

@@ -2,7 +2,8 @@
 
 ghost use Rattle.std.specs.Prelude.{◌≡◌, Bool};
 ghost use Rattle.std.specs.List.{list_all};
-ghost use Rattle.small_card.specs.Pairs.{each_pair, are_profiles_apart, are_lines_apart, are_entries_apart, are_rising};
+ghost use Rattle.small_card.specs.Pairs.{each_pair, are_profiles_apart, are_lines_apart};
+ghost use Rattle.small_card.specs.Pairs.{are_entries_apart, are_rising};
 
 use crate::types::{EimEntry, EimLine, PackageResult, Profile};
 

@@ -91,8 +91,8 @@ pub struct Signed {
 /// that isn't there and 2 for one in the wrong state, and a delete has 3 for a profile that a
 /// rollback may give back. An add has 1 where the eIM is there, 2 where eight are there and 3 where
 /// the associations are used up; its association is 0 exactly where its code isn't 0. An update or
-/// a `Dropped`, which is the delete of an eIM, has 1 where the eIM isn't there, and a `Dropped` that
-/// left no eIM has 2, which counts as done.
+/// a `Dropped`, which is the delete of an eIM, has 1 where the eIM isn't there, and a `Dropped`
+/// that left no eIM has 2, which counts as done.
 #[derive(Debug, Drop, PartialEq, Eq)]
 pub enum Item {
     Enable(u8),

@@ -1,6 +1,8 @@
 ghost use Rattle.std.specs.Prelude.{◌≡◌, ◌++◌, length, take, OnOk, OnErr};
 ghost use Rattle.std.specs.List.{flat_map};
-ghost use Rattle.trace_text.specs.Texts.{sign_text, profile_entry, package_text, eim_entry, pending_entry, profiles_text, eims_text, pending_text, card_text};
+ghost use Rattle.trace_text.specs.Texts.{sign_text, profile_entry, package_text, eim_entry};
+ghost use Rattle.trace_text.specs.Texts.{pending_entry, profiles_text, eims_text, pending_text};
+ghost use Rattle.trace_text.specs.Texts.{card_text};
 
 use crate::parts::{put_mark, put_number, put_text};
 use iot_bytes::{NoMemory, Row, put_hex};
@@ -42,7 +44,8 @@ fn put_package(
     association: u32,
     counter: u64,
 ) -> Result<(), NoMemory>
-    ensures ok { OnOk result (out.new ≡ out.old ++ (label.now ++ package_text id.now association counter)) }
+    ensures ok { OnOk result (out.new ≡ out.old
+        ++ (label.now ++ package_text id.now association counter)) }
     ensures err { OnErr result (take (length out.old) out.new ≡ out.old) }
 {
     put_text(out, label, id.octets())?;

@@ -1,6 +1,7 @@
 ghost use Rattle.std.specs.Prelude.{◌≡◌, ◌++◌, length, take, OnOk, OnErr};
 ghost use Rattle.std.specs.List.{flat_map};
-ghost use Rattle.trace_text.specs.Texts.{add_text, item_text, item_entry, items_text, counters_text, refused_text};
+ghost use Rattle.trace_text.specs.Texts.{add_text, item_text, item_entry, items_text};
+ghost use Rattle.trace_text.specs.Texts.{counters_text, refused_text};
 
 use crate::parts::put_number;
 use iot_bytes::{NoMemory, Row, put_decimal};
@@ -89,7 +90,8 @@ fn put_whole_refused(out: &mut Row<u8>, refused: &Refused) -> Result<(), NoMemor
     put_counters(out, refused)
 }
 
-/// Appends the code of a refusal, and for a replay the two counters, or nothing where memory ran out.
+/// Appends the code of a refusal, and for a replay the two counters, or nothing where memory ran
+/// out.
 pub fn put_refused(out: &mut Row<u8>, refused: &Refused) -> Result<(), NoMemory>
     ensures ok { OnOk result (out.new ≡ out.old ++ refused_text refused.now) }
     ensures err { OnErr result (out.new ≡ out.old) }

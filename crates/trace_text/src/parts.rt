@@ -1,5 +1,5 @@
-//! Appending parts of a text. Where memory runs out, a front of the part may be left behind what was
-//! there before.
+//! Appending parts of a text. Where memory runs out, a front of the part may be left behind what
+//! was there before.
 
 ghost use Rattle.std.specs.Prelude.{◌≡◌, ◌++◌, length, take, OnOk, OnErr};
 ghost use Rattle.std.specs.Fmt.{decimal};

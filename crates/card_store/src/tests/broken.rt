@@ -56,7 +56,8 @@ const RESULTS: [(u64, &[u8]); 8] = [
     (27_144, &[1]),
 ];
 
-// Each of these octets at its place in the home leaves an image of no card; without it there is one.
+// Each of these octets at its place in the home leaves an image of no card; without it there is
+// one.
 fn none_loads(rt: &impl Abort, alloc: Global, faults: &[(u64, &[u8])]) -> Result<(), Fail> {
     let full = full_home(alloc, 0)?;
     let home = full.as_slice();
