@@ -1,0 +1,136 @@
+-- What the first line makes of a bench.
+use Rattle.std.proofs.Common.{◌≡◌, ◌⊎◌, ⊎_elim, inl, inr, ℕ, ◌+◌, ◌-◌, ◌^◌, ◌≤◌, min, Bool, true, false, cond, List, [], ◌∷◌, length, Option, Some, None, Ok, Err, refl, sym, ◌∙◌, ap, subst, arith}
+use Rattle.std.proofs.lemmas.Bool.{false≢true}
+use Rattle.iot_bytes.specs.Causes.{Rose}
+use Rattle.chip_port.specs.declared.chip.Tear.{Tear}
+use Rattle.chip_port.specs.Seen.{Seen, Tally, Marks, no_plan}
+use Rattle.chip_port.specs.Rules.{Untouched, Sound, Same}
+use Rattle.chip_port.specs.Runs.{Ran, Went, Smooth, Broke, Less, LetsPass}
+use Rattle.small_card.specs.Cards.{FullCard}
+use Rattle.small_card.specs.Fresh.{fresh}
+use Rattle.small_card.specs.Histories.{History, full_of}
+use Rattle.small_card.specs.Legal.{IsLegal, IsLegalFrom}
+use Rattle.small_card.specs.Prefixes.{first_units}
+use Rattle.small_card.specs.Valid.{IsValid}
+use Rattle.small_card.proofs.Prefixes.{first_all}
+use Rattle.small_card.proofs.Validity.{full_start}
+use Rattle.card_store.specs.Standing.{Stands, IsSettled}
+use Rattle.card_store.specs.Holding.{Mark, Holds, standing}
+use Rattle.card_store.specs.declared.ends.MakeError.{MakeError}
+use Rattle.card_store.specs.declared.ends.MakeError.TheVariants as make
+use Rattle.euicc_core.specs.Answers.{Answers}
+use Rattle.euicc_core.specs.Openings.{Personalises}
+use Rattle.iot_schedule.specs.declared.types.Device.{Device}
+use Rattle.modem_bank.specs.Modems.{Seen as ModemSeen}
+use Rattle.small_world.specs.Stepping.{attempt}
+use Rattle.small_world.specs.Worlds.{SmallWorld, start_world, started}
+use Rattle.world_card.specs.Benches.{HoldsWorld, IsOnBench, IsSound}
+use Rattle.world_card.specs.Counts.{Counted, KeepsPast, answered_fate}
+use Rattle.world_card.specs.Starts.{IsStarted, IsUnstarted, StartsOn}
+use Rattle.world_card.proofs.Counting.{answered_counted, since, IsSameCount, same_past}
+
+-- a card that was just made
+first_held : (s t : Seen) (P : List ℕ → Type 0) (h : History) → Sound 346624 s → Sound 346624 t → Answers P (full_of h) s t → Holds t (s.marks.answers + 1) h (standing h ∷ [])
+first_held s t P h before now a =
+    let run = a.ended in
+    let answers : t.marks.answers ≡ s.marks.answers + 1 = ap (λ (k : Marks). k.answers) run.marks in
+    let whole : first_units (length h.units) h ≡ h = first_all h in
+    let none : List Mark = [] in
+    let one : s.marks.answers + 1 + length none ≡ s.marks.answers + 1 = omega arith in
+    record {
+      answers = omega (arith, answers);
+      marked = (
+        record {
+          within = omega arith;
+          each = λ i left. subst (λ (g : History). Stands (full_of g) i) (sym whole) (new_image i (subst (λ (k : ℕ). t.left k i) one left));
+          some = (t.reads, subst (λ (k : ℕ). t.left k t.reads) (answers ∙ sym one) (now.counts_now t.reads now.reads_now), subst (λ (g : History). Stands (full_of g) t.reads) (sym whole) (run.here t.reads now.reads_now));
+        },
+        tt,
+      );
+    }
+  where
+    new_image : (i : List ℕ) → t.left (s.marks.answers + 1) i → Stands (full_of h) i
+    new_image i left = ⊎_elim (λ was. absurd (omega (arith, before.none_above (s.marks.answers + 1) i was))) (λ added. ⊎_elim (λ at. absurd (omega (arith, at.0))) (λ at. at.1) added) (a.ended.adds (s.marks.answers + 1) i left)
+
+-- a plan that was dropped
+same_count : (s b : Seen) → Untouched no_plan s b → IsSameCount s b
+same_count s b d = record {
+  told = d.told;
+  faults = d.faults;
+  cuts = ap (λ (t : Tally). t.cuts) d.tally_is;
+  breaks = ap (λ (t : Tally). t.breaks) d.tally_is;
+  uses = ap (λ (t : Tally). t.uses) d.tally_is;
+  plans = ap (λ (t : Tally). t.plans) d.tally_is;
+  answers = ap (λ (m : Marks). m.answers) d.keeps.marks;
+  past = subst (λ (m : Marks). KeepsPast s.marks m) (sym d.keeps.marks) (same_past s.marks);
+}
+
+start_legal : (f : FullCard) → IsValid f → IsLegal (record { start = f; units = [] })
+unfolding IsLegal IsLegalFrom
+start_legal f v = v
+
+start_sound : (d : Device) (handed_in : List ModemSeen) → IsValid (fresh d.eid d.profiles) → IsSound (start_world d handed_in)
+unfolding start_world started attempt
+start_sound d handed_in v = record {
+  legal = start_legal (fresh d.eid d.profiles) v;
+  tried = tt;
+  newest = record { mark = standing (record { start = fresh d.eid d.profiles; units = [] }); older = []; newest = refl; whole = refl };
+  rests = λ is. refl;
+}
+
+pub card_started : (d : Device) (held : Option FullCard) (P : List ℕ → Type 0) (s b t : Seen) → Sound 346624 b → Sound 346624 t → s.told ≡ true → Untouched no_plan s b → held ≡ Some (fresh d.eid d.profiles) → Answers P (fresh d.eid d.profiles) b t → IsStarted d held s t
+unfolding start_world started Went
+card_started d held P s b t before now told dropped is a =
+    let f = fresh d.eid d.profiles in
+    let full : full_of (record { start = f; units = [] }) ≡ f = full_start f in
+    let answered : Answers P (full_of (record { start = f; units = [] })) b t = subst (λ (g : FullCard). Answers P g b t) (sym full) a in
+    let answers : b.marks.answers ≡ s.marks.answers = ap (λ (m : Marks). m.answers) dropped.keeps.marks in
+    let holds = subst (λ n. Holds t (n + 1) (record { start = f; units = [] }) (standing (record { start = f; units = [] }) ∷ [])) answers (first_held b t P (record { start = f; units = [] }) before now answered) in
+    let none : b.tally.plan ≡ None = ap (λ (x : Tally). x.plan) dropped.tally_is in
+    let smooth : Smooth 10000 b.tally t.tally = a.ended.went in
+    record {
+      stands = λ handed_in. record {
+        sound = start_sound d handed_in a.settled.stands.valid;
+        held_is = is ∙ ap (λ (g : FullCard). Some g) (sym full);
+        bench = record {
+          told = a.ended.told;
+          holds = holds;
+          lit = λ lit. record { settled = answered.settled; powered = a.ended.powered };
+          dark = λ dark. absurd (false≢true (sym dark));
+        };
+        plan = subst (λ (p : Option (ℕ × Tear)). Less 10000 p t.tally.plan) none smooth.plan;
+      };
+      counts = since (answered_fate true) s b t (same_count s b dropped) (answered_counted true _ _ b t (dropped.told ∙ told) a.ended);
+    }
+
+pub start_failed : (P : List ℕ → Type 0) (s b t : Seen) → s.told ≡ true → Untouched no_plan s b → Ran 10000 false P b t → IsUnstarted s t
+unfolding Went
+start_failed P s b t told dropped r =
+    let w : Broke 10000 b.tally t.tally = r.went in
+    let same = same_count s b dropped in
+    let none : b.tally.plan ≡ None = ap (λ (x : Tally). x.plan) dropped.tally_is in
+    record {
+      told = r.told ∙ sym told;
+      marks = r.marks ∙ dropped.keeps.marks;
+      plans = w.plans ∙ same.plans;
+      most = subst (λ n. t.tally.uses ≤ n + 10000) same.uses w.most;
+      broke = λ powered. subst (λ n. Rose n t.tally.breaks) same.breaks
+          (w.early (ap (λ (x : Tally). x.cut) dropped.tally_is ∙ powered) (subst (λ (p : Option (ℕ × Tear)). LetsPass 10000 p) (sym none) tt)).0;
+    }
+
+pub start_short : (s b t : Seen) → Untouched no_plan s b → Untouched (λ x. x) b t → Untouched no_plan s t
+start_short s b t d u = record {
+  told = u.told ∙ d.told;
+  faults = u.faults ∙ d.faults;
+  keeps = record {
+    reads = u.keeps.reads ∙ d.keeps.reads;
+    leaves = λ i. (λ was. (u.keeps.leaves i).0 ((d.keeps.leaves i).0 was), λ now. (d.keeps.leaves i).1 ((u.keeps.leaves i).1 now));
+    marks = u.keeps.marks ∙ d.keeps.marks;
+  };
+  left = λ n i. (λ was. (u.left n i).0 ((d.left n i).0 was), λ now. (d.left n i).1 ((u.left n i).1 now));
+  tally_is = u.tally_is ∙ d.tally_is;
+}
+
+pub start_refused : (d : Device) (card : FullCard) (e : MakeError) (s b t : Seen) → s.told ≡ true → Untouched no_plan s b → Personalises card (Err e) b t → StartsOn d (Err e) s t
+start_refused d card make.Failed s b t told dropped p = start_failed _ s b t told dropped p
+start_refused d card make.NoMemory s b t told dropped p = start_short s b t dropped p
