@@ -11,3 +11,6 @@ mod run;
 
 pub use laws::{commands_are_replied_to, packages_are_checked, packages_take_effect_once};
 pub use run::run_card;
+
+#[cfg(test)]
+mod tests;
