@@ -1,11 +1,13 @@
 -- A chip that holds a history goes on holding it over the calls of a card.
-use Rattle.std.proofs.Common.{◌≡◌, ◌⊎◌, ⊎_elim, inl, inr, ℕ, ◌+◌, true, List, [], ◌∷◌, length, refl, sym, ◌∙◌, ap, subst, arith}
+use Rattle.std.proofs.Common.{◌≡◌, ◌⊎◌, ⊎_elim, inl, inr, ℕ, ◌+◌, ◌≤◌, true, List, [], ◌∷◌, length, refl, sym, ◌∙◌, ap, subst, arith}
 use Rattle.std.specs.Prelude.{Option, Some, None}
 use Rattle.chip_port.specs.Seen.{Seen}
 use Rattle.chip_port.specs.Rules.{Sound}
 use Rattle.chip_port.specs.Runs.{Ended}
 use Rattle.small_card.specs.Units.{CardUnit}
 use Rattle.small_card.specs.Histories.{History, full_of, with_unit}
+use Rattle.small_card.specs.Prefixes.{first_units}
+use Rattle.small_card.proofs.Prefixes.{first_all}
 use Rattle.small_card.specs.declared.types.Command.{Command}
 use Rattle.package_codec.specs.Replies.{unit_of, grown, after}
 use Rattle.card_store.specs.Looking.{Looks}
@@ -54,7 +56,8 @@ opening_held s t first h m older u v before now held either a =
       went = run.went;
     })
 
-marks_kept : (s t : Seen) (first : ℕ) (h : History) (marks : List Mark) → ((k : ℕ) (i : List ℕ) → s.left k i → t.left k i) → ((k : ℕ) (i : List ℕ) → t.left k i → s.left k i) → AreMarked s first h marks → AreMarked t first h marks
+-- the same images since each answer
+pub marks_kept : (s t : Seen) (first : ℕ) (h : History) (marks : List Mark) → ((k : ℕ) (i : List ℕ) → s.left k i → t.left k i) → ((k : ℕ) (i : List ℕ) → t.left k i → s.left k i) → AreMarked s first h marks → AreMarked t first h marks
 marks_kept s t first h [] keeps adds are = tt
 marks_kept s t first h (m ∷ older) keeps adds are =
     let k = first + length older in (
@@ -67,3 +70,26 @@ look_held s t n first h marks l holds = record {
   answers = ap (λ m. m.answers + 1) l.keeps.marks ∙ holds.answers;
   marked = marks_kept s t first h marks (λ k i was. (l.left k i).0 was) (λ k i now. (l.left k i).1 now) holds.marked;
 }
+
+-- a card that was just opened or made
+pub first_held : (s t : Seen) (P : List ℕ → Type 0) (h : History) → Sound 346624 s → Sound 346624 t → Answers P (full_of h) s t → Holds t (s.marks.answers + 1) h (standing h ∷ [])
+first_held s t P h before now a =
+    let run = a.ended in
+    let answers : t.marks.answers ≡ s.marks.answers + 1 = ap (λ k. k.answers) run.marks in
+    let whole : first_units (length h.units) h ≡ h = first_all h in
+    let none : List Mark = [] in
+    let one : s.marks.answers + 1 + length none ≡ s.marks.answers + 1 = omega arith in
+    record {
+      answers = omega (arith, answers);
+      marked = (
+        record {
+          within = omega arith;
+          each = λ i left. subst (λ (g : History). Stands (full_of g) i) (sym whole) (new_image i (subst (λ (k : ℕ). t.left k i) one left));
+          some = (t.reads, subst (λ (k : ℕ). t.left k t.reads) (answers ∙ sym one) (now.counts_now t.reads now.reads_now), subst (λ (g : History). Stands (full_of g) t.reads) (sym whole) (run.here t.reads now.reads_now));
+        },
+        tt,
+      );
+    }
+  where
+    new_image : (i : List ℕ) → t.left (s.marks.answers + 1) i → Stands (full_of h) i
+    new_image i left = ⊎_elim (λ was. absurd (omega (arith, before.none_above (s.marks.answers + 1) i was))) (λ added. ⊎_elim (λ at. absurd (omega (arith, at.0))) (λ at. at.1) added) (a.ended.adds (s.marks.answers + 1) i left)

@@ -22,7 +22,7 @@ use Rattle.euicc_core.specs.Answers.{Answers}
 use Rattle.euicc_core.specs.Steps.{EndsAt}
 use Rattle.euicc_core.specs.declared.ends.StepEnd.{StepEnd}
 use Rattle.euicc_core.specs.declared.ends.StepEnd.TheVariants as step
-use Rattle.euicc_core.proofs.Kept.{step_held, look_held}
+use Rattle.euicc_core.proofs.Kept.{step_held, look_held, first_held}
 use Rattle.lone_card.specs.Marks.{tried, marked, opened}
 use Rattle.lone_card.specs.Benches.{HoldsFrom, IsSettledOn, Rests, IsTopped, GoesOn, BreaksOff}
 
@@ -95,29 +95,6 @@ answered s t h c before now told a = record { calls = a.ended.went; rests = λ f
 
 pub lost : (s t : Seen) (h : History) (u : Option CardUnit) → Sound 346624 s → s.told ≡ true → Ran 10000 false (StandsAt h u) s t → BreaksOff (Some h) u s t
 lost s t h u before told r = record { calls = r.went; holds = λ first marks top at. lost_holds s t first h u marks before told r top at }
-
--- a card that was just opened or made
-pub first_held : (s t : Seen) (P : List ℕ → Type 0) (h : History) → Sound 346624 s → Sound 346624 t → Answers P (full_of h) s t → Holds t (s.marks.answers + 1) h (standing h ∷ [])
-first_held s t P h before now a =
-    let run = a.ended in
-    let answers : t.marks.answers ≡ s.marks.answers + 1 = ap (λ k. k.answers) run.marks in
-    let whole : first_units (length h.units) h ≡ h = first_all h in
-    let none : List Mark = [] in
-    let one : s.marks.answers + 1 + length none ≡ s.marks.answers + 1 = omega arith in
-    record {
-      answers = omega (arith, answers);
-      marked = (
-        record {
-          within = omega arith;
-          each = λ i left. subst (λ (g : History). Stands (full_of g) i) (sym whole) (new_image i (subst (λ (k : ℕ). t.left k i) one left));
-          some = (t.reads, subst (λ (k : ℕ). t.left k t.reads) (answers ∙ sym one) (now.counts_now t.reads now.reads_now), subst (λ (g : History). Stands (full_of g) t.reads) (sym whole) (run.here t.reads now.reads_now));
-        },
-        tt,
-      );
-    }
-  where
-    new_image : (i : List ℕ) → t.left (s.marks.answers + 1) i → Stands (full_of h) i
-    new_image i left = ⊎_elim (λ was. absurd (omega (arith, before.none_above (s.marks.answers + 1) i was))) (λ added. ⊎_elim (λ at. absurd (omega (arith, at.0))) (λ at. at.1) added) (a.ended.adds (s.marks.answers + 1) i left)
 
 pub first_rests : (s t : Seen) (P : List ℕ → Type 0) (h : History) → Sound 346624 s → Sound 346624 t → Answers P (full_of h) s t → Rests t (s.marks.answers + 1) (Some h) (opened (Some h))
 first_rests s t P h before now a = record { holds = first_held s t P h before now a; settled = a.settled }

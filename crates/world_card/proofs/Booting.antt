@@ -22,7 +22,7 @@ use Rattle.card_store.proofs.Holding.{loss_held}
 use Rattle.euicc_core.specs.Answers.{Answers}
 use Rattle.euicc_core.specs.Openings.{Opens, IsOpened, IsUnopened}
 use Rattle.euicc_core.specs.declared.ends.OpenError.TheVariants as open_end
-use Rattle.euicc_core.proofs.Kept.{opening_held}
+use Rattle.euicc_core.proofs.Kept.{opening_held, marks_kept}
 use Rattle.small_world.specs.Stepping.{attempt, woken, booted}
 use Rattle.small_world.specs.Stretches.{is_far}
 use Rattle.small_world.specs.Worlds.{SmallWorld, Plan}
@@ -33,7 +33,7 @@ use Rattle.world_card.specs.declared.ends.BootEnd.TheVariants.{Booted, Lost, For
 use Rattle.world_card.specs.Boots.{Boots, HasCauseOfBoot, Reopens, IsBooted, IsLostBoot, IsShortBoot, IsWokenFor, MayTakeAttempt}
 use Rattle.world_card.specs.Counts.{Counted, KeepsPast, answered_fate, lost_fate, short_fate}
 use Rattle.world_card.proofs.Counting.{answered_counted, lost_counted, ran_counted, dropped_counted, since, IsSameCount, same_past}
-use Rattle.world_card.proofs.Standing.{held_at, marks_kept, untouched_world}
+use Rattle.world_card.proofs.Standing.{held_at, untouched_world}
 
 -- what a cut left stands for the history, with the attempt or without it
 stands_at : (first : ℕ) (w : SmallWorld) (s : Seen) → IsSound w → HoldsWorld first s w → (i : List ℕ) → s.leaves i → StandsAt w.history (attempt w.marks) i

@@ -4,3 +4,4 @@ pub mod Commanding
 pub mod Booting
 pub mod Starting
 pub mod Planning
+pub mod Same

@@ -11,6 +11,7 @@ use Rattle.undo_journal.specs.Home.{is_open}
 use Rattle.card_store.specs.Standing.{Stands, IsSettled}
 use Rattle.card_store.specs.Looking.{Looks}
 use Rattle.card_store.specs.Holding.{Mark, Holds, AreMarked, IsHeld, StandsAt}
+use Rattle.euicc_core.proofs.Kept.{marks_kept}
 use Rattle.small_world.specs.Stepping.{attempt}
 use Rattle.small_world.specs.Worlds.{SmallWorld}
 use Rattle.world_card.specs.Benches.{HoldsWorld, IsPowered, IsOnBench, IsNewest, IsSound, held_in}
@@ -21,14 +22,6 @@ settled_as f s t same fewer settled = record {
   shut = subst (λ (i : List ℕ). is_open i ≡ false) (sym same) settled.shut;
   stands = subst (λ (i : List ℕ). Stands f i) (sym same) settled.stands;
 }
-
-pub marks_kept : (s t : Seen) (first : ℕ) (h : History) (marks : List Mark) → ((k : ℕ) (i : List ℕ) → s.left k i → t.left k i) → ((k : ℕ) (i : List ℕ) → t.left k i → s.left k i) → AreMarked s first h marks → AreMarked t first h marks
-marks_kept s t first h [] keeps adds are = tt
-marks_kept s t first h (m ∷ older) keeps adds are =
-    let k = first + length older in (
-      record { within = are.0.within; each = λ i now. are.0.each i (adds k i now); some = (are.0.some.0, keeps k are.0.some.0 are.0.some.1, are.0.some.2) },
-      marks_kept s t first h older keeps adds are.1,
-    )
 
 -- the same content and marks, and what a cut leaves
 pub kept_world : (first : ℕ) (s t : Seen) (w : SmallWorld) → t.told ≡ true → Keeps s t → ((k : ℕ) → Same (s.left k) (t.left k)) → t.tally.cut ≡ s.tally.cut → HoldsWorld first s w → HoldsWorld first t w

@@ -20,6 +20,7 @@ use Rattle.card_store.specs.declared.ends.MakeError.{MakeError}
 use Rattle.card_store.specs.declared.ends.MakeError.TheVariants as make
 use Rattle.euicc_core.specs.Answers.{Answers}
 use Rattle.euicc_core.specs.Openings.{Personalises}
+use Rattle.euicc_core.proofs.Kept.{first_held}
 use Rattle.iot_schedule.specs.declared.types.Device.{Device}
 use Rattle.modem_bank.specs.Modems.{Seen as ModemSeen}
 use Rattle.small_world.specs.Stepping.{attempt}
@@ -28,29 +29,6 @@ use Rattle.world_card.specs.Benches.{HoldsWorld, IsOnBench, IsSound}
 use Rattle.world_card.specs.Counts.{Counted, KeepsPast, answered_fate}
 use Rattle.world_card.specs.Starts.{IsStarted, IsUnstarted, StartsOn}
 use Rattle.world_card.proofs.Counting.{answered_counted, since, IsSameCount, same_past}
-
--- a card that was just made
-first_held : (s t : Seen) (P : List ℕ → Type 0) (h : History) → Sound 346624 s → Sound 346624 t → Answers P (full_of h) s t → Holds t (s.marks.answers + 1) h (standing h ∷ [])
-first_held s t P h before now a =
-    let run = a.ended in
-    let answers : t.marks.answers ≡ s.marks.answers + 1 = ap (λ (k : Marks). k.answers) run.marks in
-    let whole : first_units (length h.units) h ≡ h = first_all h in
-    let none : List Mark = [] in
-    let one : s.marks.answers + 1 + length none ≡ s.marks.answers + 1 = omega arith in
-    record {
-      answers = omega (arith, answers);
-      marked = (
-        record {
-          within = omega arith;
-          each = λ i left. subst (λ (g : History). Stands (full_of g) i) (sym whole) (new_image i (subst (λ (k : ℕ). t.left k i) one left));
-          some = (t.reads, subst (λ (k : ℕ). t.left k t.reads) (answers ∙ sym one) (now.counts_now t.reads now.reads_now), subst (λ (g : History). Stands (full_of g) t.reads) (sym whole) (run.here t.reads now.reads_now));
-        },
-        tt,
-      );
-    }
-  where
-    new_image : (i : List ℕ) → t.left (s.marks.answers + 1) i → Stands (full_of h) i
-    new_image i left = ⊎_elim (λ was. absurd (omega (arith, before.none_above (s.marks.answers + 1) i was))) (λ added. ⊎_elim (λ at. absurd (omega (arith, at.0))) (λ at. at.1) added) (a.ended.adds (s.marks.answers + 1) i left)
 
 -- a plan that was dropped
 same_count : (s b : Seen) → Untouched no_plan s b → IsSameCount s b
