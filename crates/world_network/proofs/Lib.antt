@@ -1,0 +1,3 @@
+mod Places
+mod Sending
+pub mod Standing

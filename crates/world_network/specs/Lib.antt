@@ -1,0 +1,4 @@
+pub mod Pairs
+pub mod Mails
+pub mod Managers
+pub mod Networks
