@@ -1,6 +1,7 @@
 //! The eIMs of a world, found by their identifiers.
 ghost use Rattle.std.specs.Prelude.{◌≡◌, ◌≢◌, ◌≤◌, ◌++◌, [], ◌∷◌, List, Some, None, option_map};
-ghost use Rattle.std.specs.Prelude.{position, OnOk, OnErr, IfOk, IfSome, MatchResult, option_copied};
+ghost use Rattle.std.specs.Prelude.{position, OnOk, OnErr, IfOk, IfSome, MatchResult};
+ghost use Rattle.std.specs.Prelude.{option_copied};
 ghost use Rattle.std.specs.List.{list_any};
 ghost use Rattle.small_card.specs.Ranges.{IsBody, IsNumber, greatest_counter};
 ghost use Rattle.esipa_codec.specs.Eims.{EimState, bind_end, bound_to, heard, message_end};

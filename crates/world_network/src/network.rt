@@ -1,4 +1,5 @@
-ghost use Rattle.std.specs.Prelude.{◌≡◌, ◌≢◌, ◌≤◌, ◌<◌, ◌↔◌, not, true, false, List, Some, None, length};
+ghost use Rattle.std.specs.Prelude.{◌≡◌, ◌≢◌, ◌≤◌, ◌<◌, ◌↔◌, not, true, false, List, Some, None};
+ghost use Rattle.std.specs.Prelude.{length};
 ghost use Rattle.std.specs.Prelude.{IfOk, IfErr, IfSome, OnOk, OnErr, IsErrOf};
 ghost use Rattle.std.specs.Prelude.{option_copied, option_map};
 ghost use Rattle.esipa_codec.specs.Assistant.{act_of, poll, probe, push, strikes};
@@ -17,7 +18,8 @@ ghost use Rattle.small_world.specs.Network.{eim_of, gone_up, is_known, joined, p
 ghost use Rattle.small_world.specs.Octets.{most_octets_sent, octets_sent};
 ghost use Rattle.small_world.specs.Worlds.{SmallWorld, eid_of, start_world};
 ghost use Rattle.world_network.specs.Managers.{IfBooked};
-ghost use Rattle.world_network.specs.Networks.{IsNetwork, acting, down_act, heard_of, hearing_from, up_end};
+ghost use Rattle.world_network.specs.Networks.{IsNetwork, acting, down_act, heard_of, hearing_from};
+ghost use Rattle.world_network.specs.Networks.{up_end};
 
 use crate::mail::{Mail, SendEnd, named, reread_post, reread_reply};
 use crate::managers::{self, Manager};
@@ -271,7 +273,8 @@ impl Network {
     ) -> Result<Option<MessageEnd>, SendEnd>
         requires { IsToEim message }
         ensures end { (w : SmallWorld) → IsNetwork self.old w
-            → IfOk result (λ end. end ≡ heard_of (Some (record { to = to; message = message })) w.eims) }
+            → IfOk result (λ end. end ≡ heard_of
+            (Some (record { to = to; message = message })) w.eims) }
         ensures stands { (w : SmallWorld) → IsNetwork self.old w
             → OnOk result (IsNetwork self.new
             (gone_up (Some (record { to = to; message = message })) w)) }
