@@ -63,7 +63,7 @@ impl BenchCard {
         ensures starts { IfTold (B.sees bench.old)
             (Starts eid profiles result (B.sees bench.old) (B.sees bench.new)) }
     {
-        bench.drop_plan();
+        bench.drop_plan(); // A plan for an earlier card.
         match EuiccCard::personalise(alloc, bench, eid, profiles) {
             Ok(card) => Ok(BenchCard { card: Some(card) }),
             Err(error) => Err(error),
