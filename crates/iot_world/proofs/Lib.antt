@@ -1,0 +1,10 @@
+mod Around
+mod Telling
+mod Heard
+mod Replied
+pub mod Turning
+mod Carrying
+mod Powering
+mod Resting
+mod Messaging
+mod Quieting
