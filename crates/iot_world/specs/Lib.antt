@@ -6,3 +6,5 @@ pub mod Quiet
 pub mod Steps
 pub mod Commanding
 pub mod Carrying
+pub mod Turns
+pub mod Starts

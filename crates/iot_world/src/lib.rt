@@ -7,7 +7,9 @@ mod asking;
 mod assistant_lines;
 mod card_lines;
 mod ends;
+mod modem_lines;
 mod quiet_lines;
+mod stepping;
 mod world;
 
 pub use ends::Halt;
