@@ -8,3 +8,4 @@ mod Powering
 mod Resting
 mod Messaging
 mod Quieting
+mod Halting
