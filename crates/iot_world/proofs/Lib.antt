@@ -9,3 +9,4 @@ mod Resting
 mod Messaging
 mod Quieting
 mod Halting
+mod Handing

@@ -6,3 +6,4 @@ pub mod Quiet
 pub mod Steps
 pub mod Commanding
 pub mod Carrying
+pub mod Handing

@@ -7,6 +7,7 @@ mod asking;
 mod assistant_lines;
 mod card_lines;
 mod ends;
+mod handing_lines;
 mod quiet_lines;
 mod world;
 
