@@ -10,3 +10,4 @@ mod Messaging
 mod Quieting
 mod Halting
 mod Handing
+mod Showing

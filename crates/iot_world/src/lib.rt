@@ -9,6 +9,7 @@ mod card_lines;
 mod ends;
 mod handing_lines;
 mod quiet_lines;
+mod show_line;
 mod world;
 
 pub use ends::Halt;
