@@ -16,7 +16,7 @@ ghost use Rattle.iot_world.specs.Steps.{Acts};
 ghost use Rattle.iot_world.specs.Worlds.{StandsFor};
 
 use crate::asking::put_word;
-use crate::ends::Halt;
+use crate::ends::{Halt, halting};
 use crate::world::World;
 use chip_port::{Bench, Tear};
 use iot_bytes::{NoMemory, Row};
@@ -26,15 +26,13 @@ use std::alloc::Global;
 use world_card::{BootEnd, StepEnd};
 use world_text::put_said;
 
-// Prints what the card said to a command that removes no result.
-fn say(out: &mut Row<u8>, answer: &Answer) -> Result<(), Halt>
+/// Prints what the card said to a command that removes no result.
+#[tactic(auto, using(crate::proofs::Halting::halted))]
+pub(crate) fn say(out: &mut Row<u8>, answer: &Answer) -> Result<(), Halt>
     ensures { (c : Command) → removed_by c ≡ None
         → Says (said c answer.now) out.old out.new result }
 {
-    match put_said(out, None, answer) {
-        Ok(()) => Ok(()),
-        Err(NoMemory) => Err(Halt::NoMemory),
-    }
+    halting(put_said(out, None, answer))
 }
 
 impl World {
@@ -64,7 +62,7 @@ impl World {
     }
 
     /// The card gets its first eIM.
-    pub fn initial<B: Bench>(
+    pub(crate) fn initial<B: Bench>(
         &mut self,
         alloc: Global,
         bench: &mut B,
@@ -85,7 +83,7 @@ impl World {
     }
 
     /// The card rolls back, if it is permitted.
-    pub fn roll_back<B: Bench>(
+    pub(crate) fn roll_back<B: Bench>(
         &mut self,
         alloc: Global,
         bench: &mut B,
@@ -102,7 +100,7 @@ impl World {
     }
 
     /// Power goes off and on again.
-    pub fn boot<B: Bench>(
+    pub(crate) fn boot<B: Bench>(
         &mut self,
         alloc: Global,
         bench: &mut B,
@@ -123,7 +121,7 @@ impl World {
     }
 
     /// A cut of the card's power is planned, in place of an earlier plan.
-    pub fn cut<B: Bench>(
+    pub(crate) fn cut<B: Bench>(
         &mut self,
         bench: &mut B,
         calls: u32,

@@ -1,6 +1,6 @@
-//! The world of a schedule: the card on its bench and the network around it. Each call is one line
-//! of a schedule, and one step of the small world, as it is defined in `small_world`, before the
-//! modems are told. `docs/WORLD.md` tells it.
+//! The world of a schedule: the card on its bench, the network around it, and the modems that are
+//! lent. [`World::start`] is the first line of a schedule, and [`World::step`] any later one: one
+//! step of the small world, as it is defined in `small_world`. `docs/WORLD.md` tells it.
 #![tactic(auto)]
 
 mod asking;
@@ -8,12 +8,12 @@ mod assistant_lines;
 mod boxes;
 mod card_lines;
 mod ends;
+mod handing_lines;
 mod modem_lines;
-mod pending;
 mod quiet_lines;
+mod show_line;
 mod stepping;
 mod world;
 
 pub use ends::Halt;
-pub use quiet_lines::{bind, join, kept, order, poll, restart, skip, up};
 pub use world::World;

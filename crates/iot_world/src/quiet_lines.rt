@@ -1,16 +1,15 @@
 //! The lines that don't reach the card.
 
-ghost use Rattle.std.specs.Prelude.{◌≡◌, ◌≢◌, ◌≤◌, IfOk};
+ghost use Rattle.std.specs.Prelude.{◌≢◌, ◌≤◌, IfOk};
 ghost use Rattle.esipa_codec.specs.declared.ends.OrderEnd.{OrderEnd};
 ghost use Rattle.iot_schedule.specs.declared.types.Line.TheVariants as line;
 ghost use Rattle.small_card.specs.Ranges.{IsBody, IsNumber, greatest_counter};
 ghost use Rattle.small_world.specs.Texts.{no_such, order_text};
 ghost use Rattle.iot_world.specs.Asking.{Says};
-ghost use Rattle.iot_world.specs.Halting.{halting};
 ghost use Rattle.iot_world.specs.Quiet.{Quiets};
 
 use crate::asking::put_word;
-use crate::ends::{Halt, of_send};
+use crate::ends::{Halt, halting, of_send};
 use esipa_codec::OrderEnd;
 use iot_bytes::{NoMemory, Row};
 use iot_schedule::Pick;
@@ -21,16 +20,6 @@ use trace_text::put_kept;
 use world_network::Network;
 use world_text::{put_answer, put_bind, put_order, put_sent, put_skip};
 
-// The line halts where memory ran out for its text.
-fn halting(put: Result<(), NoMemory>) -> Result<(), Halt>
-    ensures { result ≡ halting put }
-{
-    match put {
-        Ok(()) => Ok(()),
-        Err(NoMemory) => Err(Halt::NoMemory),
-    }
-}
-
 // Prints that the named eIM or message isn't there.
 fn no_such(out: &mut Row<u8>) -> Result<(), Halt>
     ensures { Says no_such out.old out.new result }
@@ -39,7 +28,7 @@ fn no_such(out: &mut Row<u8>) -> Result<(), Halt>
 }
 
 /// The assistant begins anew.
-pub fn restart(network: &mut Network, out: &mut Row<u8>) -> Result<(), Halt>
+pub(crate) fn restart(network: &mut Network, out: &mut Row<u8>) -> Result<(), Halt>
     ensures { Quiets line.Restart result network.old network.new out.old out.new }
 {
     network.restart();
@@ -47,7 +36,12 @@ pub fn restart(network: &mut Network, out: &mut Row<u8>) -> Result<(), Halt>
 }
 
 /// An eIM joins the world, unless it is there.
-pub fn join(network: &mut Network, alloc: Global, id: EimId, out: &mut Row<u8>) -> Result<(), Halt>
+pub(crate) fn join(
+    network: &mut Network,
+    alloc: Global,
+    id: EimId,
+    out: &mut Row<u8>,
+) -> Result<(), Halt>
     ensures { Quiets (line.Eim id) result network.old network.new out.old out.new }
 {
     match network.join(alloc, id) {
@@ -58,7 +52,7 @@ pub fn join(network: &mut Network, alloc: Global, id: EimId, out: &mut Row<u8>) 
 }
 
 /// The eIM is bound to an association, with the last counter used with it.
-pub fn bind(
+pub(crate) fn bind(
     network: &mut Network,
     id: EimId,
     association: u32,
@@ -77,7 +71,7 @@ pub fn bind(
 }
 
 /// The eIM gives up the first order that waits.
-pub fn skip(network: &mut Network, id: EimId, out: &mut Row<u8>) -> Result<(), Halt>
+pub(crate) fn skip(network: &mut Network, id: EimId, out: &mut Row<u8>) -> Result<(), Halt>
     ensures { Quiets (line.Skip id) result network.old network.new out.old out.new }
 {
     match network.skip(&id) {
@@ -87,7 +81,7 @@ pub fn skip(network: &mut Network, id: EimId, out: &mut Row<u8>) -> Result<(), H
 }
 
 /// The records of the eIM are printed.
-pub fn kept(network: &Network, id: EimId, out: &mut Row<u8>) -> Result<(), Halt>
+pub(crate) fn kept(network: &Network, id: EimId, out: &mut Row<u8>) -> Result<(), Halt>
     ensures { Quiets (line.Kept id) result network.now network.now out.old out.new }
 {
     match network.records(&id) {
@@ -110,7 +104,7 @@ fn ordered(out: &mut Row<u8>, end: OrderEnd) -> Result<(), Halt>
 }
 
 /// The eIM gets an order of these operations.
-pub fn order(
+pub(crate) fn order(
     network: &mut Network,
     alloc: Global,
     id: EimId,
@@ -127,7 +121,12 @@ pub fn order(
 }
 
 /// The assistant polls the eIM.
-pub fn poll(network: &mut Network, alloc: Global, id: EimId, out: &mut Row<u8>) -> Result<(), Halt>
+pub(crate) fn poll(
+    network: &mut Network,
+    alloc: Global,
+    id: EimId,
+    out: &mut Row<u8>,
+) -> Result<(), Halt>
     ensures { Quiets (line.Poll id) result network.old network.new out.old out.new }
 {
     let first = network.sent();
@@ -142,7 +141,12 @@ pub fn poll(network: &mut Network, alloc: Global, id: EimId, out: &mut Row<u8>) 
 }
 
 /// A message reaches its eIM, which may answer.
-pub fn up(network: &mut Network, alloc: Global, pick: Pick, out: &mut Row<u8>) -> Result<(), Halt>
+pub(crate) fn up(
+    network: &mut Network,
+    alloc: Global,
+    pick: Pick,
+    out: &mut Row<u8>,
+) -> Result<(), Halt>
     ensures { Quiets (line.Up pick) result network.old network.new out.old out.new }
 {
     let place = network.replied();
