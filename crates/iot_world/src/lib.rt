@@ -9,7 +9,6 @@ mod boxes;
 mod card_lines;
 mod ends;
 mod modem_lines;
-mod pending;
 mod quiet_lines;
 mod stepping;
 mod world;
