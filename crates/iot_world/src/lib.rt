@@ -8,8 +8,10 @@ mod assistant_lines;
 mod boxes;
 mod card_lines;
 mod ends;
+mod handing_lines;
 mod modem_lines;
 mod quiet_lines;
+mod show_line;
 mod stepping;
 mod world;
 
