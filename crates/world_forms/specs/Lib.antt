@@ -1,0 +1,4 @@
+pub mod Courses
+pub mod Losses
+pub mod Keeping
+pub mod Replays
