@@ -114,13 +114,16 @@ Stops handed_in s t modems ls text l Unrecognised = ⊥
 Stops handed_in s t modems ls text l NoMemory =
     (IsFirst handed_in modems ls text × (Untouched no_change s t ⊎ Untouched no_plan s t)) ⊎ IsShortBehind handed_in s t ls text l
 
--- The same. Also where the content isn't told, a line is malformed exactly where it isn't in the grammar, and a fault of
--- the chip comes only at the first line, and where the count of faults rose.
-pub record StopsReplay (handed_in : List ModemSeen) (s t : Seen) (modems : List ModemSeen) (ls : List (List ℕ)) (text l : List ℕ) (stop : LineStop) : Type 0 where
+-- Also where the content isn't told, a line is malformed exactly where it isn't in the grammar, and a fault of the chip
+-- comes only at the first line, and where the count of faults rose.
+pub record IsRefused (s t : Seen) (ls : List (List ℕ)) (l : List ℕ) (stop : LineStop) : Type 0 where
   pub fit : AreInGrammar ls
   pub unfit : stop ≡ Malformed → ¬ AreInGrammar (ls ++ l ∷ [])
   pub fits : stop ≢ Malformed → stop ≢ NoMemory → AreInGrammar (ls ++ l ∷ [])
   pub cause : stop ≡ ChipFault → (ls ≡ []) × Rose s.faults t.faults
+
+pub record StopsReplay (handed_in : List ModemSeen) (s t : Seen) (modems : List ModemSeen) (ls : List (List ℕ)) (text l : List ℕ) (stop : LineStop) : Type 0 where
+  pub refused : IsRefused s t ls l stop
   pub told : IfTold s (Stops handed_in s t modems ls text l stop)
 
 -- Nothing is sent behind the texts of lines; a first line has to be there.

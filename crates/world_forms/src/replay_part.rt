@@ -110,6 +110,33 @@ impl<
     G: Fn(&mut Row<u8>, &T) -> Result<(), NoMemory> + Copy + Drop,
 > LinePart<B, Vec<T>> for ReplayPart<F, G>
 {
+    ghost use Rattle.modem_bank.specs.Modems.{Seen};
+    ghost use Rattle.modem_bank.specs.Telling.{TellsOne};
+    ghost use Rattle.world_text.specs.Putting.{PutsOne};
+    ghost use Rattle.world_forms.specs.Replays.{EndsReplay, IsRefused, Stops};
+    ghost use Rattle.world_forms.specs.Walks.{Began, IsReadyFor, Led};
+    ghost use Rattle.chip_port.specs.Rules.{IfTold};
+
+    ghost ready = { λ at. F.IsAlwaysCallable at.part.tell
+        × (G.IsAlwaysCallable at.part.put × IsReadyFor at.part.world (B.sees at.bench)) };
+
+    ghost behind = { λ first now ls text. first.part.world ≡ None
+        → ((now.part.tell ≡ first.part.tell) × (now.part.put ≡ first.part.put))
+        × (Began now.part.world (B.sees first.bench) (B.sees now.bench) ls
+        × ((view : T → Seen) → TellsOne F.Fn first.part.tell view
+        → PutsOne G.Fn first.part.put view
+        → Led now.part.world (map view first.modems.items) (B.sees first.bench)
+        (B.sees now.bench) (map view now.modems.items) ls text)) };
+
+    ghost stops = { λ first now ls text l stop. first.part.world ≡ None
+        → IsRefused (B.sees first.bench) (B.sees now.bench) ls l stop
+        × ((view : T → Seen) → TellsOne F.Fn first.part.tell view
+        → PutsOne G.Fn first.part.put view
+        → IfTold (B.sees first.bench) (Stops (map view first.modems.items)
+        (B.sees first.bench) (B.sees now.bench) (map view now.modems.items) ls text l stop)) };
+
+    ghost ends = { λ first now ls text end. first.part.world ≡ None → EndsReplay ls text end };
+
     fn handle(
         &mut self,
         alloc: Global,
@@ -136,4 +163,5 @@ impl<
             None => Err(EndStop::Missing),
         }
     }
+    ghost begins = { λ first. led_nowhere .. };
 }
