@@ -85,6 +85,7 @@ boots first w (Err NoMemory) v s t before out n b says = inr (record {
   may = may_boot first w v.card s t b;
   holds = b.stands.bench;
   counts = subst (λ (f : Fate). Counted f s t) (boot_fate w false b.taken) b.counts;
+  woken = λ boot lost. b.woken;
 })
 
 pub boot_lost : (first : ℕ) (w : SmallWorld) (result : Result (Unit {0}) Halt) (v : World) (s t : Seen) (before out : List ℕ) → IsNetwork v.network w → IsLostBoot first w v.card s t → Says lost_text before out result → Acts first line.Boot w result v s t before out
@@ -106,6 +107,7 @@ boot_lost first w (Err NoMemory) v s t before out n b says = inr (record {
   may = lit_boot w;
   holds = b.stands.bench;
   counts = subst (λ (f : Fate). Counted f s t) (boot_fate w true false) b.counts;
+  woken = λ boot lost. absurd (false≢true (sym lost));
 })
 
 pub boot_short : (first : ℕ) (w : SmallWorld) (s t : Seen) → IsShortBoot first w s t → IsBefore first w s t ⊎ IsActedShort first line.Boot w s t
@@ -165,6 +167,7 @@ cuts first w calls tear (Err NoMemory) v s t before out n p says = inr (record {
   may = cut_may w calls tear;
   holds = p.stands.bench;
   counts = subst (λ (f : Fate). Counted f s t) (cut_fate w calls tear) p.counts;
+  woken = λ boot lost. absurd (false≢true boot);
 })
 
 pub cut_short : (first : ℕ) (w : SmallWorld) (calls : ℕ) (tear : Tear) (v : World) (e : Wanting) (s t : Seen) → Planned first w calls tear (Err e) v.card s t → IsBefore first w s t ⊎ IsActedShort first (line.Cut calls tear) w s t

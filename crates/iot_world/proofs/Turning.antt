@@ -67,6 +67,7 @@ turned_short first l c lost w s t g may holds counts = record {
   may = may_turn w l c lost g may;
   holds = holds;
   counts = subst (λ (f : Fate). Counted f s t) (fate_is w l c lost g) counts;
+  woken = λ boot. absurd (false≢true (sym g.no_boot ∙ boot));
 }
 
 -- a command that nobody carries

@@ -60,6 +60,7 @@ pub record IsActedShort (first : ℕ) (l : Line) (w : SmallWorld) (s t : Seen) :
   pub may : MayTurn w (turn l lost taken)
   pub holds : HoldsWorld first t (acted l lost taken w)
   pub counts : Counted (fate_of w (turn l lost taken)) s t
+  pub woken : is_boot l ≡ true → lost ≡ false → IsWokenFor (full_of (acted l lost taken w).history) t
 
 abbrev pub Acts : ℕ → Line → SmallWorld → Result (Unit {0}) Halt → World → Seen → Seen → List ℕ → List ℕ → Type 0
 Acts first l w (Ok done) v s t before out = IsActed first l w v s t before out
