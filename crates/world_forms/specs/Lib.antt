@@ -2,4 +2,6 @@ pub mod Courses
 pub mod Losses
 pub mod Keeping
 pub mod Replays
+pub mod Handling
 pub mod Walks
+pub mod Starting
