@@ -118,7 +118,7 @@ few_ended n stretch older u same now few =
     let before : n ≡ a - 1 = omega (arith, same) in (
       few_none (m.cuts_at a) (m.breaks_at a) u.tally.cuts u.tally.breaks now.cuts now.breaks,
       subst (λ (k : ℕ). AreFew m k (m.cuts_at a) (m.breaks_at a) (stretch ∷ older)) before
-      (few_kept m m n u.tally.cuts u.tally.breaks (m.cuts_at a) (m.breaks_at a) (stretch ∷ older) (λ k less. (refl, refl, refl)) (omega (arith, same)) now.cuts now.breaks few),
+          (few_kept m m n u.tally.cuts u.tally.breaks (m.cuts_at a) (m.breaks_at a) (stretch ∷ older) (λ k less. (refl, refl, refl)) (omega (arith, same)) now.cuts now.breaks few),
     )
 
 -- a line that made a mark or not
