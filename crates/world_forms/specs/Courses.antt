@@ -1,5 +1,5 @@
 -- The lines of a schedule, the run of the small world that they make, and its trace.
-use Rattle.std.specs.Prelude.{◌≡◌, List, ℕ, ◌∷◌, length, map, Option, Some}
+use Rattle.std.specs.Prelude.{◌≡◌, List, ℕ, ◌∷◌, length, map, Some}
 use Rattle.iot_schedule.specs.Devices.{device_at}
 use Rattle.iot_schedule.specs.Steps.{step_at}
 use Rattle.iot_schedule.specs.declared.types.Device.{Device}
