@@ -8,3 +8,7 @@ mod Powering
 mod Resting
 mod Messaging
 mod Quieting
+mod Attaching
+mod Attending
+mod Idling
+mod Ranging

@@ -1,5 +1,5 @@
 -- The first line of a schedule: the device's card is personalised, and the modems are told.
-use Rattle.std.specs.Prelude.{◌≡◌, ℕ, ◌+◌, List, Result, Ok, Err}
+use Rattle.std.specs.Prelude.{◌+◌, true, List, Result, Ok, Err}
 use Rattle.chip_port.specs.Rules.{Untouched}
 use Rattle.chip_port.specs.Seen.{Seen, no_plan}
 use Rattle.card_store.specs.declared.ends.MakeError.{MakeError}

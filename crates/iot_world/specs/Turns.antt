@@ -23,7 +23,7 @@ use Rattle.iot_world.specs.declared.world.World.{World}
 -- The value and the bench stand for the world, and the lent modems show and count what its modems do.
 pub record StandsWith (first : ℕ) (v : World) (s : Seen) (modems : List ModemSeen) (w : SmallWorld) : Type 0 where
   pub world : StandsFor first v s w
-  pub modems : modems ≡ w.modems
+  pub same_modems : modems ≡ w.modems
 
 -- A list after a line: `detach` takes the entry at its place out, if there is one.
 abbrev pub left_by : {A : Type 0} → Line → List A → List A

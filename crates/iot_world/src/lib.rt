@@ -5,9 +5,11 @@
 
 mod asking;
 mod assistant_lines;
+mod boxes;
 mod card_lines;
 mod ends;
 mod modem_lines;
+mod pending;
 mod quiet_lines;
 mod stepping;
 mod world;

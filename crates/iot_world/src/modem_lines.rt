@@ -1,6 +1,6 @@
 //! The lines of the modems, and what modems are told at the end of each line.
 
-ghost use Rattle.std.specs.Prelude.{◌≡◌, List, Option, map};
+ghost use Rattle.std.specs.Prelude.{◌≡◌, ℕ, List, Option, false, map};
 ghost use Rattle.iot_schedule.specs.declared.types.Line.TheVariants as line;
 ghost use Rattle.modem_bank.specs.Modems.{Seen};
 ghost use Rattle.modem_bank.specs.Telling.{KeepsOne, TellsOne};
