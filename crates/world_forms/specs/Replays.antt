@@ -24,7 +24,6 @@ use Rattle.small_world.specs.Octets.{most_octets_sent, octets_sent}
 use Rattle.small_world.specs.Runs.{MayTurn, Turn, given, world_after}
 use Rattle.small_world.specs.Stepping.{commanded}
 use Rattle.small_world.specs.Stretches.{fates, is_far}
-use Rattle.small_world.specs.Worlds.{SmallWorld}
 use Rattle.world_card.specs.Counts.{answered_fate, short_fate}
 use Rattle.world_card.specs.Starts.{IsUnstarted}
 use Rattle.world_forms.specs.Courses.{HasRun, start_of, turns_of}

@@ -1,10 +1,10 @@
 -- Before its first line a part came to no world, and its bench and modems are as they were.
-use Rattle.std.proofs.Common.{◌≡◌, List, ℕ, [], Option, None, refl, sym, subst}
+use Rattle.std.proofs.Common.{◌≡◌, List, [], Option, None, refl, sym, subst}
 use Rattle.chip_port.specs.Rules.{Untouched}
 use Rattle.chip_port.specs.Seen.{Seen}
 use Rattle.iot_world.specs.declared.world.World.{World}
 use Rattle.modem_bank.specs.Modems.{Seen as ModemSeen}
-use Rattle.world_forms.specs.Replays.{IsUnbegun, no_change}
+use Rattle.world_forms.specs.Replays.{no_change}
 use Rattle.world_forms.specs.Walks.{Began, IsAt, Led}
 
 pub untouched_same : (s : Seen) → Untouched no_change s s
