@@ -1,6 +1,6 @@
 //! What handles lines.
 
-ghost use Rattle.std.specs.Prelude.{[]};
+ghost use Rattle.std.specs.Prelude.{[], OnOk};
 ghost use Rattle.line_loop.specs.Parts.{Scene, scene, Walk, Stopping, Ending, Handles, Finishes};
 
 use crate::halt::{EndStop, LineStop};
@@ -9,6 +9,9 @@ use std::alloc::Global;
 
 /// What handles lines one after the other, lent a bench and modems that the loop only hands on.
 pub trait LinePart<B, M> {
+    /// What has to hold of the scene before each line; by default nothing has to.
+    ghost ready: { Scene Self B M → Type 0 } = { λ _. Unit {0} };
+
     /// From the first scene on these lines led to the second, and this text is sent for them: the
     /// text of each, one behind the other.
     ghost behind: { Scene Self B M → Scene Self B M → Walk };
@@ -33,8 +36,10 @@ pub trait LinePart<B, M> {
         modems: &mut M,
         out: &mut Row<u8>,
     ) -> Result<(), LineStop>
-        ensures { Handles behind stops (scene self.old bench.old modems.old)
-            (scene self.new bench.new modems.new) line.now out.old out.new result };
+        requires { ready (scene self.old bench.old modems.old) }
+        ensures handles { Handles behind stops (scene self.old bench.old modems.old)
+            (scene self.new bench.new modems.new) line.now out.old out.new result }
+        ensures ready { OnOk result (ready (scene self.new bench.new modems.new)) };
 
     /// Appends the closing text.
     ///

@@ -1,6 +1,6 @@
 //! The loop: a line is read and handled, and its text sent, before the next one is read.
 
-ghost use Rattle.std.specs.Prelude.{◌≡◌, ℕ, ◌<◌, ◌≤◌, List, Option, Err};
+ghost use Rattle.std.specs.Prelude.{◌≡◌, ℕ, ◌<◌, ◌≤◌, List, Option, Err, OnOk};
 ghost use Rattle.run_loop.specs.Edges.{Edge, edge};
 ghost use Rattle.line_loop.specs.Parts.{Scene, scene};
 ghost use Rattle.line_loop.specs.Runs.{Progress, Turned, Halted, Ended};
@@ -33,7 +33,8 @@ fn turn<B, M, P: LinePart<B, M>, S: Source, K: Sink>(
     bench: &mut B,
     modems: &mut M,
 ) -> Result<(), Halt>
-    ensures { (first : Scene P B M) (start : Edge) (count : ℕ) → count < MOST_LINES
+    requires { P.ready (scene part.old bench.old modems.old) }
+    ensures turned { (first : Scene P B M) (start : Edge) (count : ℕ) → count < MOST_LINES
         → Progress (P.behind first (scene part.old bench.old modems.old)) start
         (edge (S.rest source.old) (S.faults source.old) (K.sent sink.old) (K.faults sink.old))
         count
@@ -41,6 +42,7 @@ fn turn<B, M, P: LinePart<B, M>, S: Source, K: Sink>(
         (P.stops first (scene part.new bench.new modems.new)) start
         (edge (S.rest source.new) (S.faults source.new) (K.sent sink.new) (K.faults sink.new))
         count result }
+    ensures ready { OnOk result (P.ready (scene part.new bench.new modems.new)) }
 {
     let line = next_line(alloc, source)?;
     let mut out = Row::new(alloc);
@@ -58,6 +60,7 @@ fn handle<B, M, P: LinePart<B, M>, S: Source, K: Sink>(
     bench: &mut B,
     modems: &mut M,
 ) -> Last
+    requires { P.ready (scene part.old bench.old modems.old) }
     ensures { Halted
         (P.behind (scene part.old bench.old modems.old) (scene part.new bench.new modems.new))
         (P.stops (scene part.old bench.old modems.old) (scene part.new bench.new modems.new))
@@ -137,6 +140,7 @@ pub fn serve_lines<B, M, P: LinePart<B, M>, S: Source, K: Sink>(
     bench: &mut B,
     modems: &mut M,
 ) -> RunEnd
+    requires { P.ready (scene part.old bench.old modems.old) }
     ensures { Ended
         (P.behind (scene part.old bench.old modems.old) (scene part.new bench.new modems.new))
         (P.stops (scene part.old bench.old modems.old) (scene part.new bench.new modems.new))

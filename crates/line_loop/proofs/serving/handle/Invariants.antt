@@ -9,4 +9,4 @@ invariant-loop-handled g l =
     let reads = g.S.Source.faults in
     let sent = g.K.Sink.sent in
     let writes = g.K.Sink.faults in
-    Progress (g.P.LinePart.behind (scene l.fn.part l.fn.bench l.fn.modems) (scene l.part l.bench l.modems)) (edge (rest l.fn.source) (reads l.fn.source) (sent l.fn.sink) (writes l.fn.sink)) (edge (rest l.source) (reads l.source) (sent l.sink) (writes l.sink)) l.handled
+    g.P.LinePart.ready (scene l.part l.bench l.modems) × Progress (g.P.LinePart.behind (scene l.fn.part l.fn.bench l.fn.modems) (scene l.part l.bench l.modems)) (edge (rest l.fn.source) (reads l.fn.source) (sent l.fn.sink) (writes l.fn.sink)) (edge (rest l.source) (reads l.source) (sent l.sink) (writes l.sink)) l.handled

@@ -3,14 +3,14 @@ use Rattle.std.proofs.lemmas.Result.{err_from_is_err_and}
 use Rattle.schedule_forms.proofs.Counting.{counts_on, counts_no_more}
 use Rattle.schedule_forms.proofs.check_part.CheckPartLinePartUnitUnit.handle.Goals as goal
 
-pub returns-in_err-check_line : goal.returns-in_err-check_line
-returns-in_err-check_line c =
+pub returns-in_err-check_line-clause-handles : goal.returns-in_err-check_line-clause-handles
+returns-in_err-check_line-clause-handles c =
     let e = err_from_is_err_and c.from_residual.result c.from_residual.ensures.1 in
     let check = c.in_err-check_line.ensures in
     rw (e.1, e.2) (λ first ls before was. counts_no_more first.part.count c.args.self.now.count c.args.line.now c.in_err-check_line.field-0.0 check.first check.later ls before was)
 
-pub returns : goal.returns
-returns c =
+pub returns-clause-handles : goal.returns-clause-handles
+returns-clause-handles c =
     let check = c.in_ok-check_line.ensures in
     record {
       text = [];

@@ -1,0 +1,5 @@
+mod Courses
+mod Losses
+mod Keeping
+mod Walking
+mod Fitting
