@@ -16,6 +16,8 @@ use Rattle.schedule_forms.specs.Checks.{ok_line}
 use Rattle.schedule_forms.specs.Schedules.{Checked}
 use Rattle.schedule_forms.specs.Schedules as schedules
 use Rattle.schedule_forms.specs.Pieces.{HasGenerated}
+use Rattle.modem_bank.specs.Modems.{Seen as ModemSeen}
+use Rattle.world_forms.specs.Replays.{Replayed}
 use Rattle.iot_program.specs.declared.words.Form.{Form}
 use Rattle.iot_program.specs.declared.words.Form.TheVariants as form
 
@@ -34,14 +36,15 @@ pub record DecidesBy (input : List ℕ) (status : ℕ) (old new : Edge) : Type 0
   -- where the lines stop being such ones, the status and the stop line say so
   pub stops : (ls more : List (List ℕ)) → lines_of input ≡ ls ++ more → schedules.AreHandled ls → ¬ Rose old.read_faults new.read_faults → ¬ Rose old.write_faults new.write_faults → schedules.StopsWith ls more status old.sent new.sent
 
--- what a run does, by the form of its words
-abbrev pub Does : Option Form → ℕ → Edge → Edge → Seen → Seen → Type 0
-Does None status old new s t = status ≡ 1
-Does (Some form.Card) status old new s t = Served status old new s t
-Does (Some (form.Eim id eid)) status old new s t = Ran eim_rule (new_eim id eid) status old new
-Does (Some (form.Ipa eid)) status old new s t = Ran (ipa_rule eid) [] status old new
-Does (Some form.Check) status old new s t = Checked status old new
-Does (Some (form.Gen start lines)) status old new s t = Generates start lines status old new
+-- what a run does, by the form of its words; the modems are those that were lent, before and after
+abbrev pub Does : Option Form → ℕ → Edge → Edge → Seen → Seen → List ModemSeen → List ModemSeen → Type 0
+Does None status old new s t handed_in modems = status ≡ 1
+Does (Some form.Card) status old new s t handed_in modems = Served status old new s t
+Does (Some (form.Eim id eid)) status old new s t handed_in modems = Ran eim_rule (new_eim id eid) status old new
+Does (Some (form.Ipa eid)) status old new s t handed_in modems = Ran (ipa_rule eid) [] status old new
+Does (Some form.Check) status old new s t handed_in modems = Checked status old new
+Does (Some (form.Gen start lines)) status old new s t handed_in modems = Generates start lines status old new
+Does (Some form.Replay) status old new s t handed_in modems = Replayed handed_in status old new s t modems
 
 -- these frames are within the limits and, by the form, there is a card to answer them, or each is in the
 -- part's grammar; the forms that read lines or nothing handle no frames
@@ -51,6 +54,7 @@ HandledBy (form.Eim id eid) s fs = parts.AreHandled eim_rule (new_eim id eid) fs
 HandledBy (form.Ipa eid) s fs = parts.AreHandled (ipa_rule eid) [] fs
 HandledBy form.Check s fs = ⊥
 HandledBy (form.Gen start lines) s fs = ⊥
+HandledBy form.Replay s fs = ⊥
 
 -- the status where an input stops behind these frames, and neither a call failed nor memory was wanting but for 6
 abbrev pub StopsBy : Form → Seen → List (List ℕ) → List ℕ → ℕ → Type 0
@@ -59,3 +63,4 @@ StopsBy (form.Eim id eid) s fs tail status = parts.StopsWith eim_rule (new_eim i
 StopsBy (form.Ipa eid) s fs tail status = parts.StopsWith (ipa_rule eid) [] fs tail status
 StopsBy form.Check s fs tail status = ⊥
 StopsBy (form.Gen start lines) s fs tail status = ⊥
+StopsBy form.Replay s fs tail status = ⊥

@@ -7,7 +7,7 @@ use Rattle.sgp_values.specs.Reading.{eid_of, eim_id_of}
 use Rattle.small_card.specs.Lists.{same}
 use Rattle.iot_schedule.specs.Tokens.{number_of}
 use Rattle.iot_program.specs.declared.words.Form.{Form}
-use Rattle.iot_program.specs.declared.words.Form.TheVariants.{Card, Eim, Ipa, Check, Gen}
+use Rattle.iot_program.specs.declared.words.Form.TheVariants.{Card, Eim, Ipa, Check, Gen, Replay}
 
 abbrev pub octets_of : Result (List ℕ) FromHexError → Option (List ℕ)
 octets_of (Ok octets) = Some octets
@@ -52,9 +52,12 @@ IsForm (Gen start lines) = start ≤ 2147483647
 IsForm other = Unit {0}
 
 -- the form that the words have: `card PATH`, where PATH is any text but the empty one, `ipa EID`,
--- `eim ID EID`, `check` or `gen START LINES`
+-- `eim ID EID`, `check`, `gen START LINES` or `replay`
 unfoldable pub form_of : List (List ℕ) → Option Form
-form_of (word ∷ []) = if same word (codes "check") then Some Check else None
+form_of (word ∷ []) =
+    if same word (codes "check") then Some Check
+    else if same word (codes "replay") then Some Replay
+    else None
 form_of (word ∷ other ∷ []) =
     if same word (codes "card") && not (length other == 0) then Some Card
     else if same word (codes "ipa") then ipa_form other

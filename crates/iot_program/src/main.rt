@@ -12,6 +12,7 @@ ghost use Rattle.std.specs.IoError.{error_kind};
 use chip_port::{Bench, MemChip};
 use file_chip::FileChip;
 use iot_bytes::{NoMemory, Row, StdSink, StdSource};
+use modem_bank::{Modem, PlainModem, SplitModem};
 use run::{FAULTY_WORDS, run};
 use std::env;
 use std::io::{self, BufReader, ErrorKind};
@@ -30,14 +31,18 @@ fn command_line(rt: &HostRuntime) -> io::Result<Vec<String>> {
 }
 
 // Runs over the standard input, which is buffered, and the standard output, which isn't: an answer
-// leaves the program as soon as its frame is handled.
+// leaves the program as soon as its frame is handled. The device has two modems.
 fn run_over_streams<B: Bench>(rt: &HostRuntime, words: &[String], bench: &mut B) -> io::Result<u8> {
     let mut source = StdSource::new(BufReader::new(rt.alloc(), rt.stdin())?);
     let mut sink = StdSink::new(rt.stdout());
-    Ok(run(rt.alloc(), words, &mut source, &mut sink, bench))
+    let alloc = rt.alloc();
+    let mut modems: Vec<Box<dyn Modem>> = Vec::new(alloc);
+    modems.push(Box::new(alloc, PlainModem::new())?)?;
+    modems.push(Box::new(alloc, SplitModem::new())?)?;
+    Ok(run(alloc, words, &mut source, &mut sink, bench, &mut modems))
 }
 
-// Runs over a chip in memory, which no form but `card` asks for.
+// Runs over a chip in memory: the one of a replay, and one that no other form but `card` asks for.
 fn run_in_memory(rt: &HostRuntime, words: &[String]) -> io::Result<u8> {
     match MemChip::new(rt.alloc(), Row::new(rt.alloc())) {
         Ok(chip) => {

@@ -1,7 +1,9 @@
 //! The top call.
 
 ghost use Rattle.std.specs.Prelude.{◌≡◌, ◌≢◌, ◌↔◌, ◌⊎◌, ◌++◌, ℕ, List, map, string_bytes, Some};
-ghost use Rattle.std.specs.Prelude.{None};
+ghost use Rattle.std.specs.Prelude.{None, OnErr, OnOk, length, take};
+ghost use Rattle.modem_bank.specs.Modems.{seen, told_one};
+ghost use Rattle.small_world.specs.Texts.{modem_entry};
 ghost use Rattle.iot_bytes.specs.Causes.{Rose};
 ghost use Rattle.run_loop.specs.Edges.{edge, HasCauses};
 ghost use Rattle.run_loop.specs.Frames.{framed};
@@ -12,11 +14,15 @@ ghost use Rattle.iot_program.specs.declared.words.Form.{Form};
 
 use crate::words::{Form, form_of_words};
 use chip_port::Bench;
-use iot_bytes::{Sink, Source};
+use iot_bytes::{NoMemory, Row, Sink, Source};
 use lone_card::run_card;
 use lone_parts::{run_eim, run_ipa};
+use modem_bank::{Modem, tell_one};
 use schedule_forms::{run_check, run_gen};
+use sgp_values::Iccid;
 use std::alloc::Global;
+use world_forms::run_replay;
+use world_text::put_modem;
 
 /// The status of a faulty command line.
 pub const FAULTY_WORDS: u8 = 1;
@@ -28,12 +34,15 @@ fn run_form<S: Source, K: Sink, B: Bench>(
     source: &mut S,
     sink: &mut K,
     bench: &mut B,
+    modems: &mut Vec<Box<dyn Modem>>,
 ) -> u8
     requires { IsForm form }
     ensures does { Does (Some form) result
         (edge (S.rest source.old) (S.faults source.old) (K.sent sink.old) (K.faults sink.old))
         (edge (S.rest source.new) (S.faults source.new) (K.sent sink.new) (K.faults sink.new))
-        (B.sees bench.old) (B.sees bench.new) }
+        (B.sees bench.old) (B.sees bench.new)
+        (seen shown_iccid refresh_count modems.old.items)
+        (seen shown_iccid refresh_count modems.new.items) }
     ensures own { result ≢ 1 }
     ensures causes { HasCauses
         (edge (S.rest source.old) (S.faults source.old) (K.sent sink.old) (K.faults sink.old))
@@ -41,7 +50,10 @@ fn run_form<S: Source, K: Sink, B: Bench>(
         (result ≡ 2) (result ≡ 3) }
     ensures faults { form ≡ Form.Card
         → HasFaults (B.sees bench.old) (B.sees bench.new) (result ≡ 4) }
-    ensures untouched_bench { form ≢ Form.Card → bench.new ≡ bench.old }
+    ensures broke { form ≡ Form.Replay → result ≡ 4
+        → Rose (B.sees bench.old).faults (B.sees bench.new).faults }
+    ensures untouched_bench { form ≢ Form.Card → form ≢ Form.Replay → bench.new ≡ bench.old }
+    ensures untouched_modems { form ≢ Form.Replay → modems.new ≡ modems.old }
     ensures complete { (input : List ℕ) (fs : List (List ℕ))
         → S.rest source.old ≡ Some input → input ≡ framed fs → HandledBy form (B.sees bench.old) fs
         → ¬ Rose (S.faults source.old) (S.faults source.new)
@@ -67,22 +79,42 @@ fn run_form<S: Source, K: Sink, B: Bench>(
         Form::Ipa { eid } => run_ipa(alloc, eid, source, sink),
         Form::Check => run_check(alloc, source, sink),
         Form::Gen { start, lines } => run_gen(alloc, start, lines, sink),
+        Form::Replay => run_replay(
+            alloc,
+            source,
+            sink,
+            bench,
+            modems,
+            |modem: &mut Box<dyn Modem>, now: &Option<Iccid>|
+                ensures seen { (shown_iccid modem.new, refresh_count modem.new)
+                    ≡ told_one now.now (shown_iccid modem.old, refresh_count modem.old) }
+            { tell_one(&mut **modem, now) },
+            |out: &mut Row<u8>, modem: &Box<dyn Modem>| -> Result<(), NoMemory>
+                ensures ok { OnOk result (out.new
+                    ≡ out.old ++ modem_entry (shown_iccid modem.now, refresh_count modem.now)) }
+                ensures err { OnErr result (take (length out.old) out.new ≡ out.old) }
+            { put_modem(out, &modem.shows(), modem.refreshes()) },
+        ),
     }
 }
 
-/// Does what the words ask for, over a source, a sink and a bench, and gives the exit status.
+/// Does what the words ask for, over a source, a sink, a bench and a list of modems, and gives the
+/// exit status.
 pub fn run<S: Source, K: Sink, B: Bench>(
     alloc: Global,
     words: &[String],
     source: &mut S,
     sink: &mut K,
     bench: &mut B,
+    modems: &mut Vec<Box<dyn Modem>>,
 ) -> u8
     // What was read and sent, by the form of the words and the status.
     ensures does { Does (form_of (map string_bytes words.now)) result
         (edge (S.rest source.old) (S.faults source.old) (K.sent sink.old) (K.faults sink.old))
         (edge (S.rest source.new) (S.faults source.new) (K.sent sink.new) (K.faults sink.new))
-        (B.sees bench.old) (B.sees bench.new) }
+        (B.sees bench.old) (B.sees bench.new)
+        (seen shown_iccid refresh_count modems.old.items)
+        (seen shown_iccid refresh_count modems.new.items) }
     // Status 1 comes exactly where the words have no form, and then nothing was read or written.
     ensures faulty_words { (result ≡ 1) ↔ (form_of (map string_bytes words.now) ≡ None) }
     ensures untouched_source { result ≡ 1 → source.new ≡ source.old }
@@ -92,11 +124,17 @@ pub fn run<S: Source, K: Sink, B: Bench>(
         (edge (S.rest source.old) (S.faults source.old) (K.sent sink.old) (K.faults sink.old))
         (edge (S.rest source.new) (S.faults source.new) (K.sent sink.new) (K.faults sink.new))
         (result ≡ 2) (result ≡ 3) }
-    // With `card` status 4 comes only where a call on the bench failed; no other form makes any.
+    // With `card` and `replay` status 4 comes only where a call on the bench failed; no other form
+    // makes any.
     ensures faults { form_of (map string_bytes words.now) ≡ Some Form.Card
         → HasFaults (B.sees bench.old) (B.sees bench.new) (result ≡ 4) }
+    ensures broke { form_of (map string_bytes words.now) ≡ Some Form.Replay → result ≡ 4
+        → Rose (B.sees bench.old).faults (B.sees bench.new).faults }
     ensures untouched_bench { form_of (map string_bytes words.now) ≢ Some Form.Card
-        → bench.new ≡ bench.old }
+        → form_of (map string_bytes words.now) ≢ Some Form.Replay → bench.new ≡ bench.old }
+    // Only `replay` tells the modems anything.
+    ensures untouched_modems { form_of (map string_bytes words.now) ≢ Some Form.Replay
+        → modems.new ≡ modems.old }
     // Whole frames within the limits that the form handles are answered to their end where no call
     // on the source, the sink or the bench fails and memory suffices: of `card` the bench stands
     // for a card or the first one makes it, and of `eim` and `ipa` each is in the grammar.
@@ -129,7 +167,7 @@ pub fn run<S: Source, K: Sink, B: Bench>(
         → source.new ≡ source.old }
 {
     match form_of_words(words) {
-        Some(form) => run_form(alloc, form, source, sink, bench),
+        Some(form) => run_form(alloc, form, source, sink, bench, modems),
         None => FAULTY_WORDS,
     }
 }

@@ -23,6 +23,8 @@ pub enum Form {
     Check,
     /// `gen START LINES`: a schedule of so many lines is generated from a start.
     Gen { start: u32, lines: u32 },
+    /// `replay`: a schedule is replayed.
+    Replay,
 }
 
 // The EID that 32 hexadecimal digits spell. It takes no memory.
@@ -79,6 +81,7 @@ pub fn form_of_words(words: &[String]) -> Option<Form>
 {
     match words {
         [word] if word.as_str() == "check" => Some(Form::Check),
+        [word] if word.as_str() == "replay" => Some(Form::Replay),
         [word, path] if word.as_str() == "card" && !path.is_empty() => Some(Form::Card),
         [word, eid] if word.as_str() == "ipa" => ipa(eid.as_str()),
         [word, id, eid] if word.as_str() == "eim" => eim(id.as_str(), eid.as_str()),

@@ -6,7 +6,7 @@ use Rattle.iot_program.proofs.Serving.{does_words}
 use Rattle.iot_program.proofs.run.run.Goals as goal
 
 pub returns-in-Some-clause-does : goal.returns-in-Some-clause-does
-returns-in-Some-clause-does g c = does_words _ c.in-Some.form c.run_form.result _ _ _ _ (sym c.form_of_words.ensures.form ∙ c.in-Some.is) c.run_form.ensures.does
+returns-in-Some-clause-does g c = does_words _ c.in-Some.form c.run_form.result _ _ _ _ _ _ (sym c.form_of_words.ensures.form ∙ c.in-Some.is) c.run_form.ensures.does
 
 pub returns-in-Some-clause-complete : goal.returns-in-Some-clause-complete
 returns-in-Some-clause-complete g c = λ form input fs words told is handled no_read no_write calm.
@@ -28,5 +28,12 @@ pub returns-in-Some-clause-faults : goal.returns-in-Some-clause-faults
 returns-in-Some-clause-faults g c = λ words. c.run_form.ensures.faults (some_is _ _ (sym (sym words ∙ sym c.form_of_words.ensures.form ∙ c.in-Some.is)))
 
 pub returns-in-Some-clause-untouched_bench : goal.returns-in-Some-clause-untouched_bench
-returns-in-Some-clause-untouched_bench g c = λ other.
-    c.run_form.ensures.untouched_bench (λ card. other (sym c.form_of_words.ensures.form ∙ c.in-Some.is ∙ ap (λ (f : Form). Some f) card))
+returns-in-Some-clause-untouched_bench g c = λ no_card no_replay.
+    c.run_form.ensures.untouched_bench (λ card. no_card (sym c.form_of_words.ensures.form ∙ c.in-Some.is ∙ ap (λ (f : Form). Some f) card)) (λ replay. no_replay (sym c.form_of_words.ensures.form ∙ c.in-Some.is ∙ ap (λ (f : Form). Some f) replay))
+
+pub returns-in-Some-clause-untouched_modems : goal.returns-in-Some-clause-untouched_modems
+returns-in-Some-clause-untouched_modems g c = λ other.
+    c.run_form.ensures.untouched_modems (λ replay. other (sym c.form_of_words.ensures.form ∙ c.in-Some.is ∙ ap (λ (f : Form). Some f) replay))
+
+pub returns-in-Some-clause-broke : goal.returns-in-Some-clause-broke
+returns-in-Some-clause-broke g c = λ words. c.run_form.ensures.broke (some_is _ _ (sym (sym words ∙ sym c.form_of_words.ensures.form ∙ c.in-Some.is)))

@@ -5,21 +5,21 @@ use Rattle.iot_program.proofs.Serving.{does_of}
 use Rattle.iot_program.proofs.run.run_form.Goals as goal
 
 pub returns-in-Card-clause-does : goal.returns-in-Card-clause-does
-returns-in-Card-clause-does g c = does_of c.args.form _ c.run_card.result _ _ _ _ c.in-Card.is c.run_card.ensures.served
+returns-in-Card-clause-does g c = does_of c.args.form _ c.run_card.result _ _ _ _ _ _ c.in-Card.is c.run_card.ensures.served
 
 pub returns-in-Card-clause-complete : goal.returns-in-Card-clause-complete
 returns-in-Card-clause-complete g c = λ input fs told is handled no_read no_write calm.
     c.run_card.ensures.complete input fs told is (subst (λ (f : Form). HandledBy f (g.B.Chip.sees c.args.bench.now) fs) c.in-Card.is handled) no_read no_write calm
 
 pub returns-in-Eim-clause-does : goal.returns-in-Eim-clause-does
-returns-in-Eim-clause-does g c = does_of c.args.form _ c.run_eim.result _ _ _ _ c.in-Eim.is c.run_eim.ensures.ran
+returns-in-Eim-clause-does g c = does_of c.args.form _ c.run_eim.result _ _ _ _ _ _ c.in-Eim.is c.run_eim.ensures.ran
 
 pub returns-in-Eim-clause-complete : goal.returns-in-Eim-clause-complete
 returns-in-Eim-clause-complete g c = λ input fs told is handled no_read no_write calm.
     c.run_eim.ensures.complete input fs told is (subst (λ (f : Form). HandledBy f (g.B.Chip.sees c.args.bench.now) fs) c.in-Eim.is handled) no_read no_write
 
 pub returns-in-Ipa-clause-does : goal.returns-in-Ipa-clause-does
-returns-in-Ipa-clause-does g c = does_of c.args.form _ c.run_ipa.result _ _ _ _ c.in-Ipa.is c.run_ipa.ensures.ran
+returns-in-Ipa-clause-does g c = does_of c.args.form _ c.run_ipa.result _ _ _ _ _ _ c.in-Ipa.is c.run_ipa.ensures.ran
 
 pub returns-in-Ipa-clause-complete : goal.returns-in-Ipa-clause-complete
 returns-in-Ipa-clause-complete g c = λ input fs told is handled no_read no_write calm.
@@ -38,7 +38,7 @@ returns-in-Ipa-clause-stops g c = λ input fs tail told is handled no_read no_wr
     subst (λ (f : Form). StopsBy f (g.B.Chip.sees c.args.bench.now) fs tail c.run_ipa.result) (sym c.in-Ipa.is) (c.run_ipa.ensures.stops input fs tail told is (subst (λ (f : Form). HandledBy f (g.B.Chip.sees c.args.bench.now) fs) c.in-Ipa.is handled) no_read no_write)
 
 pub returns-in-Check-clause-does : goal.returns-in-Check-clause-does
-returns-in-Check-clause-does g c = does_of c.args.form _ c.run_check.result _ _ _ _ c.in-Check.is c.run_check.ensures.ran
+returns-in-Check-clause-does g c = does_of c.args.form _ c.run_check.result _ _ _ _ _ _ c.in-Check.is c.run_check.ensures.ran
 
 pub returns-in-Check-clause-complete : goal.returns-in-Check-clause-complete
 returns-in-Check-clause-complete g c = λ input fs told is handled no_read no_write calm. absurd (subst (λ (f : Form). HandledBy f (g.B.Chip.sees c.args.bench.now) fs) c.in-Check.is handled)
@@ -54,7 +54,7 @@ returns-in-Check-clause-checks g c = λ input form told. record {
 }
 
 pub returns-in-Gen-clause-does : goal.returns-in-Gen-clause-does
-returns-in-Gen-clause-does g c = does_of c.args.form _ c.run_gen.result _ _ _ _ c.in-Gen.is (record { generated = c.run_gen.ensures.generated; unread = refl; no_faults = refl })
+returns-in-Gen-clause-does g c = does_of c.args.form _ c.run_gen.result _ _ _ _ _ _ c.in-Gen.is (record { generated = c.run_gen.ensures.generated; unread = refl; no_faults = refl })
 
 pub returns-in-Gen-clause-complete : goal.returns-in-Gen-clause-complete
 returns-in-Gen-clause-complete g c = λ input fs told is handled no_read no_write calm. absurd (subst (λ (f : Form). HandledBy f (g.B.Chip.sees c.args.bench.now) fs) c.in-Gen.is handled)
@@ -86,3 +86,13 @@ returns-in-Gen-clause-causes g c = record {
   ];
   write = c.run_gen.ensures.fault;
 }
+
+pub returns-in-Replay-clause-does : goal.returns-in-Replay-clause-does
+returns-in-Replay-clause-does g c =
+    does_of c.args.form _ c.run_replay.result _ _ _ _ _ _ c.in-Replay.is (c.run_replay.ensures.replayed (λ b. ((goal.Modem-dyn g (b.vtable, b.value)).shown_iccid b.value, (goal.Modem-dyn g (b.vtable, b.value)).refresh_count b.value)) (λ modem now left post. search rules) (λ out modem result left post. search rules))
+
+pub returns-in-Replay-clause-complete : goal.returns-in-Replay-clause-complete
+returns-in-Replay-clause-complete g c = λ input fs told is handled no_read no_write calm. absurd (subst (λ (f : Form). HandledBy f (g.B.Chip.sees c.args.bench.now) fs) c.in-Replay.is handled)
+
+pub returns-in-Replay-clause-stops : goal.returns-in-Replay-clause-stops
+returns-in-Replay-clause-stops g c = λ input fs tail told is handled no_read no_write calm. absurd (subst (λ (f : Form). HandledBy f (g.B.Chip.sees c.args.bench.now) fs) c.in-Replay.is handled)
