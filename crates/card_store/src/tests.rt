@@ -10,6 +10,7 @@ use undo_journal::{HOME, MAGIC};
 
 mod broken;
 mod new_card;
+mod units;
 
 const EID: [u8; 16] = [0, 1, 2, 3, 4, 5, 6, 7, 8, 9, 10, 11, 12, 13, 14, 15];
 
