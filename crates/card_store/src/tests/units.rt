@@ -137,16 +137,6 @@ fn a_commit_of_no_block(rt: HostRuntime) -> Result<(), Fail> {
     Ok(())
 }
 
-// The home of a card with results in these slots, and no more.
-fn home_of(alloc: Global, slots: &[u8]) -> Result<Row<u8>, Fail> {
-    let mut out = Row::new(alloc);
-    out.append(&[1])?;
-    out.append(&EID)?;
-    out.append(&[0, 0, 0, 0, 0, 1, 0, 0, 0, 9, 0])?;
-    put_slots(&mut out, slots)?;
-    Ok(out)
-}
-
 // The numbers of the results in the slots, 0 where a slot is free.
 fn numbers_on<C: Chip>(chip: &mut C) -> Result<[u8; 8], Fail> {
     let mut numbers = [0; 8];
