@@ -1,11 +1,14 @@
 //! What no clause says: that the calls succeed where there is memory, which octets a worked card
 //! has, whole and by parts, and which homes are that of no card.
 
+ghost use Rattle.small_card.specs.Lists.{Every};
+ghost use Rattle.small_card.specs.Ranges.{IsResult};
 ghost use Rattle.small_card.specs.Valid.{IsValid};
 ghost use Rattle.home_codec.specs.FullCards.{full_card};
 
 use super::*;
 use iot_bytes::{NoMemory, ReadError, Row};
+use small_card::PackageResult;
 use std::alloc::Global;
 use std::process::Abort;
 use std::test::Fail;
@@ -132,11 +135,17 @@ fn number_at(home: &[u8], place: usize) -> Result<Option<u32>, Fail> {
     }
 }
 
+fn slot_at(alloc: Global, pending: &[PackageResult], at: usize) -> Result<Row<u8>, NoMemory>
+    requires { Every IsResult pending.now }
+{
+    slot_octets(alloc, pending.get(at))
+}
+
 // What the slot of this place in the list begins with.
 fn slot_of(alloc: Global, card: &Card, at: usize) -> Result<Row<u8>, NoMemory>
     requires { IsValid (full_card card.now) }
 {
-    slot_octets(alloc, card.store.rows().get(at))
+    slot_at(alloc, card.store.rows(), at)
 }
 
 #[test]
