@@ -38,14 +38,13 @@ fn table(alloc: Global) -> Result<Table, Fail> {
     Table::of(rows).map_err(|_| "no table".into())
 }
 
-// Makes a card with both profiles.
-fn personalised<C: Chip>(alloc: Global, chip: &mut C) -> Result<EuiccCard, Fail>
+fn powered_up<C: Chip>(alloc: Global, chip: &mut C) -> Result<EuiccCard, Fail>
     ensures settled { IfOk result
         (λ card. IfTold (C.sees chip.new) (IsLitOn card (C.sees chip.new))) }
 {
-    match EuiccCard::personalise(alloc, chip, Eid::of(&EID)?, table(alloc)?) {
+    match EuiccCard::power_up(alloc, chip) {
         Ok(card) => Ok(card),
-        Err(_) => Err("no card was made".into()),
+        Err(_) => Err("no card stands".into()),
     }
 }
 
@@ -106,7 +105,6 @@ fn unit<C: Chip>(
     kind: Kind,
 ) -> Result<bool, Fail>
     requires settled { IfTold (C.sees chip.old) (IsLitOn card.old (C.sees chip.old)) }
-    ensures settled { IfTold (C.sees chip.new) (IsLitOn card.new (C.sees chip.new)) }
 {
     match card.step(alloc, chip, command(alloc, kind)?) {
         StepEnd::Answered(answer) => {
@@ -121,28 +119,24 @@ fn unit<C: Chip>(
     }
 }
 
-// Carries out units, each of which is answered.
-fn units<C: Chip>(
-    alloc: Global,
-    card: &mut EuiccCard,
-    chip: &mut C,
-    kinds: &[Kind],
-) -> Result<(), Fail>
-    requires settled { IfTold (C.sees chip.old) (IsLitOn card.old (C.sees chip.old)) }
-    ensures settled { IfTold (C.sees chip.new) (IsLitOn card.new (C.sees chip.new)) }
-{
-    for kind in kinds {
-        if !unit(alloc, card, chip, *kind)? {
-            return Err("a unit was lost".into());
-        }
+// Powers the card up, and carries out a unit, which is answered.
+fn carry_out<C: Chip>(alloc: Global, chip: &mut C, kind: Kind) -> Result<(), Fail> {
+    let mut card = powered_up(alloc, chip)?;
+    if unit(alloc, &mut card, chip, kind)? {
+        Ok(())
+    } else {
+        Err("a unit was lost".into())
     }
-    Ok(())
 }
 
 // A chip on which a card with both profiles carried out these units.
 fn chip_after(alloc: Global, kinds: &[Kind]) -> Result<MemChip, Fail> {
     let mut chip = MemChip::new(alloc, Row::new(alloc))?;
-    let mut card = personalised(alloc, &mut chip)?;
-    units(alloc, &mut card, &mut chip, kinds)?;
+    if EuiccCard::personalise(alloc, &mut chip, Eid::of(&EID)?, table(alloc)?).is_err() {
+        return Err("no card was made".into());
+    }
+    for kind in kinds {
+        carry_out(alloc, &mut chip, *kind)?;
+    }
     Ok(chip)
 }

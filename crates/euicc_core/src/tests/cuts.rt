@@ -21,24 +21,6 @@ const TEARS: [(Tear, u32); 4] = [
     (Tear::Junk, 1),
 ];
 
-fn powered_up<C: Chip>(alloc: Global, chip: &mut C) -> Result<EuiccCard, Fail>
-    ensures settled { IfOk result
-        (λ card. IfTold (C.sees chip.new) (IsLitOn card (C.sees chip.new))) }
-{
-    match EuiccCard::power_up(alloc, chip) {
-        Ok(card) => Ok(card),
-        Err(_) => Err("no card stands".into()),
-    }
-}
-
-// The card with both profiles that carried out these units, and one more where there is one.
-fn card_after(alloc: Global, kinds: &[Kind], last: &[Kind]) -> Result<EuiccCard, Fail> {
-    let mut chip = chip_after(alloc, kinds)?;
-    let mut card = powered_up(alloc, &mut chip)?;
-    units(alloc, &mut card, &mut chip, last)?;
-    Ok(card)
-}
-
 // Whether two lit cards are the same.
 fn are_same(alloc: Global, one: &EuiccCard, other: &EuiccCard) -> Result<bool, Fail> {
     let (Some(one), Some(other)) = (one.card(), other.card()) else {
@@ -77,9 +59,11 @@ fn check(
     kind: Kind,
     blocks: u8,
 ) -> Result<(), Fail> {
-    let old = card_after(alloc, before, &[])?;
-    let new = card_after(alloc, before, &[kind])?;
     let mut chip = chip_after(alloc, before)?;
+    let old = powered_up(alloc, &mut chip)?;
+    carry_out(alloc, &mut chip, kind)?;
+    let new = powered_up(alloc, &mut chip)?;
+    chip = chip_after(alloc, before)?;
     let count = STAGE + 3 * u32::from(blocks) + 8;
     for step in 0..4 * (count + 1) {
         let calls = step / 4;
