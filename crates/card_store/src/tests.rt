@@ -1,5 +1,5 @@
 //! What no clause says: that calls succeed where there is enough memory, which octets a new card
-//! has, and which images stand for no card.
+//! has, which images stand for no card, what a commit that is cut leaves, and where results stand.
 
 use super::*;
 use chip_port::{Chip, MemChip};
@@ -10,6 +10,7 @@ use undo_journal::{HOME, MAGIC};
 
 mod broken;
 mod new_card;
+mod units;
 
 const EID: [u8; 16] = [0, 1, 2, 3, 4, 5, 6, 7, 8, 9, 10, 11, 12, 13, 14, 15];
 
@@ -92,6 +93,16 @@ fn full_home(alloc: Global, after: u8) -> Result<Row<u8>, Fail> {
     put_eims(&mut out, 5 + after % 2)?;
     let slots = if after == 0 { [1, 2, 0] } else { [1, 2, 3] };
     put_slots(&mut out, &slots)?;
+    Ok(out)
+}
+
+// The home of a card with results in these slots, and no more.
+fn home_of(alloc: Global, slots: &[u8]) -> Result<Row<u8>, Fail> {
+    let mut out = Row::new(alloc);
+    out.append(&[1])?;
+    out.append(&EID)?;
+    out.append(&[0, 0, 0, 0, 0, 1, 0, 0, 0, 9, 0])?;
+    put_slots(&mut out, slots)?;
     Ok(out)
 }
 

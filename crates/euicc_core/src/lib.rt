@@ -14,3 +14,6 @@ pub use card::EuiccCard;
 pub use card_store::{Card, MakeError};
 pub use ends::{OpenError, StepEnd};
 pub use laws::{looks_are_held, openings_are_held, steps_are_held};
+
+#[cfg(test)]
+mod tests;

@@ -1,5 +1,14 @@
+//! What no clause says: that the calls succeed where there is memory, which octets a worked card
+//! has, whole and by parts, and which homes are that of no card.
+
+ghost use Rattle.small_card.specs.Lists.{Every};
+ghost use Rattle.small_card.specs.Ranges.{IsResult};
+ghost use Rattle.small_card.specs.Valid.{IsValid};
+ghost use Rattle.home_codec.specs.FullCards.{full_card};
+
 use super::*;
-use iot_bytes::{ReadError, Row};
+use iot_bytes::{NoMemory, ReadError, Row};
+use small_card::PackageResult;
 use std::alloc::Global;
 use std::process::Abort;
 use std::test::Fail;
@@ -110,6 +119,59 @@ fn homes_of_cards(rt: HostRuntime) -> Result<(), Fail> {
         let again = written(alloc, home.as_slice())?.ok_or("it is a card's home")?;
         assert!(rt; again.as_slice() == wanted.as_slice());
     }
+    Ok(())
+}
+
+// The number that the slot at this place tells.
+fn number_at(home: &[u8], place: usize) -> Result<Option<u32>, Fail> {
+    match home.get(place..) {
+        Some(front) => {
+            if front.len() < 32 {
+                return Err("no whole slot".into());
+            }
+            Ok(slot_number(front))
+        }
+        None => Err("no such slot".into()),
+    }
+}
+
+fn slot_at(alloc: Global, pending: &[PackageResult], at: usize) -> Result<Row<u8>, NoMemory>
+    requires { Every IsResult pending.now }
+{
+    slot_octets(alloc, pending.get(at))
+}
+
+// What the slot of this place in the list begins with.
+fn slot_of(alloc: Global, card: &Card, at: usize) -> Result<Row<u8>, NoMemory>
+    requires { IsValid (full_card card.now) }
+{
+    slot_at(alloc, card.store.rows(), at)
+}
+
+#[test]
+fn parts_of_a_home(rt: HostRuntime) -> Result<(), Fail> {
+    let alloc = rt.alloc();
+    let full = full_home(alloc, [&SECOND, &MARKED, &[]])?;
+    let home = full.as_slice();
+    let card = read_card(alloc, home)?.copy(alloc)?;
+    let fields = fields_octets(alloc, &card)?;
+    assert!(rt; Some(fields.as_slice()) == home.get(..FIELDS));
+    let fronts: [(&[u8], Option<u32>); 3] = [
+        (&SECOND, Some(2)),
+        (&MARKED, Some(3)),
+        (&[0; 4], None),
+    ];
+    let mut place = RESULT;
+    for (at, (front, number)) in fronts.into_iter().enumerate() {
+        assert!(rt; slot_of(alloc, &card, at)?.as_slice() == front, "slot {at}");
+        assert!(rt; number_at(home, place)? == number, "number in slot {at}");
+        place = place.saturating_add(RESULT_SLOT);
+    }
+    homes_have_one_card();
+    homes_are_read_back();
+    homes_are_whole();
+    parts_are_laid();
+    places_change();
     Ok(())
 }
 

@@ -32,11 +32,16 @@ const PROFILES: [(u64, &[u8]); 8] = [
     (512, &[1]),
 ];
 
-const EIMS: [(u64, &[u8]); 10] = [
+const EIMS: [(u64, &[u8]); 15] = [
     (2_304, &[0, 0, 0]),
     (2_304, &[129]),
     (2_305, b" "),
+    (2_307, b"1"),
+    (2_433, &[129]),
+    (2_433, &[0]),
     (2_434, b"#"),
+    (2_562, &[129]),
+    (2_562, &[0]),
     (2_691, &[128]),
     (2_699, &[0, 0, 0, 0]),
     (2_699, &[0, 0, 0, 2]),
@@ -45,7 +50,13 @@ const EIMS: [(u64, &[u8]); 10] = [
     (3_328, &[1]),
 ];
 
-const RESULTS: [(u64, &[u8]); 8] = [
+/// The result 2, marked.
+const MARKED: [u8; 28] = [
+    0, 0, 0, 24, 0x30, 0x16, 0x80, 1, 2, 0x81, 2, b'e', b'1', 0x82, 1, 1, 0x83, 1, 1, 0xa4, 5,
+    0xa0, 3, 0x80, 1, 0, 0x85, 0,
+];
+
+const RESULTS: [(u64, &[u8]); 9] = [
     (6_400, &[0, 0, 0, 21]),
     (6_400, &[0, 0, 80, 252]),
     (6_404, &[0x31]),
@@ -53,14 +64,26 @@ const RESULTS: [(u64, &[u8]); 8] = [
     (6_408, &[2]),
     (6_408, &[3]),
     (27_136, &[0, 0, 0, 0]),
+    (27_136, &MARKED),
     (27_144, &[1]),
+];
+
+/// On a card without entries, where no rollback is armed.
+const EMPTY: [(u64, &[u8]); 4] = [
+    (19, &[0, 0, 0, 0]),
+    (23, &[0, 0, 0, 0]),
+    (28, &[1]),
+    (41, &[1]),
 ];
 
 // Each of these octets at its place in the home leaves an image of no card; without it there is
 // one.
-fn none_loads(rt: &impl Abort, alloc: Global, faults: &[(u64, &[u8])]) -> Result<(), Fail> {
-    let full = full_home(alloc, 0)?;
-    let home = full.as_slice();
+fn none_loads(
+    rt: &impl Abort,
+    alloc: Global,
+    home: &[u8],
+    faults: &[(u64, &[u8])],
+) -> Result<(), Fail> {
     let mut chip = chip_of(alloc, home)?;
     for (at, octets) in faults {
         put(&mut chip, at.saturating_add(HOME), octets)?;
@@ -74,23 +97,14 @@ fn none_loads(rt: &impl Abort, alloc: Global, faults: &[(u64, &[u8])]) -> Result
 }
 
 #[test]
-fn heads_of_no_card(rt: HostRuntime) -> Result<(), Fail> {
-    none_loads(&rt, rt.alloc(), &HEADS)
-}
-
-#[test]
-fn profile_slots_of_no_card(rt: HostRuntime) -> Result<(), Fail> {
-    none_loads(&rt, rt.alloc(), &PROFILES)
-}
-
-#[test]
-fn eim_slots_of_no_card(rt: HostRuntime) -> Result<(), Fail> {
-    none_loads(&rt, rt.alloc(), &EIMS)
-}
-
-#[test]
-fn result_slots_of_no_card(rt: HostRuntime) -> Result<(), Fail> {
-    none_loads(&rt, rt.alloc(), &RESULTS)
+fn homes_of_no_card(rt: HostRuntime) -> Result<(), Fail> {
+    let alloc = rt.alloc();
+    let full = full_home(alloc, 0)?;
+    none_loads(&rt, alloc, full.as_slice(), &HEADS)?;
+    none_loads(&rt, alloc, full.as_slice(), &PROFILES)?;
+    none_loads(&rt, alloc, full.as_slice(), &EIMS)?;
+    none_loads(&rt, alloc, full.as_slice(), &RESULTS)?;
+    none_loads(&rt, alloc, home_of(alloc, &[])?.as_slice(), &EMPTY)
 }
 
 /// Octets at the directory, and whether it is well formed.
