@@ -3,10 +3,15 @@
 
 use crate::run::run;
 use crate::status_of;
-use chip_port::MemChip;
+use crate::words::{Form, form_of_words};
+use chip_port::{Bench, MemChip};
+use file_chip::FileChip;
 use iot_bytes::{MemSink, MemSource, Row, read_hex};
+use modem_bank::{Modem, PlainModem};
 use run_loop::MOST_FRAMES;
+use sgp_values::{Eid, EimId};
 use std::alloc::Global;
+use std::fs;
 use std::io::{self, ErrorKind};
 use std::test::Fail;
 
@@ -83,6 +88,37 @@ fn put_one(out: &mut Row<u8>, alloc: Global, content: Option<&&str>) -> Result<(
     Ok(())
 }
 
+/// The words of a line that has a bar between each two.
+fn words_of(alloc: Global, line: &str) -> Result<Vec<String>, Fail> {
+    let mut words = Vec::new(alloc);
+    for word in line.split('|') {
+        words.push(String::from_str(alloc, word)?)?;
+    }
+    Ok(words)
+}
+
+/// The status of a run over an input and a bench, and what was sent.
+fn ran<B: Bench>(
+    alloc: Global,
+    words: &[String],
+    input: &Row<u8>,
+    edge: &Edge<'_>,
+    bench: &mut B,
+) -> Result<(u8, Row<u8>), Fail> {
+    let mut failing = Row::new(alloc);
+    failing.append(edge.failing)?;
+    let mut refusing = Row::new(alloc);
+    refusing.append(edge.refusing)?;
+    let mut source = MemSource::new(input.copy(alloc)?, edge.piece.max(1), failing);
+    let mut sink = MemSink::new(alloc, edge.room, edge.piece.max(1), refusing)?;
+    let mut modems: Vec<Box<dyn Modem>> = Vec::new(alloc);
+    modems.push(Box::new(alloc, PlainModem::new())?)?;
+    let status = run(alloc, words, &mut source, &mut sink, bench, &mut modems);
+    let mut sent = Row::new(alloc);
+    sent.append(sink.taken())?;
+    Ok((status, sent))
+}
+
 /// Whether `card x` over an input ends with the status, and these octets are sent.
 fn ends(
     alloc: Global,
@@ -91,19 +127,10 @@ fn ends(
     status: u8,
     sent: &Row<u8>,
 ) -> Result<bool, Fail> {
-    let mut failing = Row::new(alloc);
-    failing.append(edge.failing)?;
-    let mut refusing = Row::new(alloc);
-    refusing.append(edge.refusing)?;
-    let mut source = MemSource::new(input.copy(alloc)?, edge.piece.max(1), failing);
-    let mut sink = MemSink::new(alloc, edge.room, edge.piece.max(1), refusing)?;
-    let words = [
-        String::from_str(alloc, "card")?,
-        String::from_str(alloc, "x")?,
-    ];
+    let words = words_of(alloc, "card|x")?;
     let mut chip = MemChip::new(alloc, Row::new(alloc))?;
-    let ended = run(alloc, &words, &mut source, &mut sink, &mut chip);
-    Ok(ended == status && sink.taken() == sent.as_slice())
+    let (ended, taken) = ran(alloc, &words, input, edge, &mut chip)?;
+    Ok(ended == status && taken == *sent)
 }
 
 /// Whether frames and octets behind them, in pieces of 1, of 3 and of all octets, end with the
@@ -402,26 +429,216 @@ fn the_limit_on_frames(rt: HostRuntime) -> Result<(), Fail> {
     Ok(())
 }
 
-#[test]
-fn faulty_command_lines(rt: HostRuntime) -> Result<(), Fail> {
-    let alloc = rt.alloc();
-    for words in [["card", ""], ["cards", "x"], ["x", "card"], ["", ""]] {
-        let words = [
-            String::from_str(alloc, words[0])?,
-            String::from_str(alloc, words[1])?,
-        ];
-        let mut source = MemSource::new(Row::new(alloc), 1, Row::new(alloc));
-        let mut sink = MemSink::new(alloc, 9, 1, Row::new(alloc))?;
-        let mut chip = MemChip::new(alloc, Row::new(alloc))?;
-        assert_eq!(rt; run(alloc, &words, &mut source, &mut sink, &mut chip), 1);
-        assert_eq!(rt;
-            run(alloc, &words[..1], &mut source, &mut sink, &mut chip),
-            1
-        );
-        assert_eq!(rt; run(alloc, &[], &mut source, &mut sink, &mut chip), 1);
+/// Command lines, with a bar between each two words, and what `status_over_faults` makes of them.
+const COMMAND_LINES: [(&str, u8); 89] = [
+    ("", 1),
+    ("|", 1),
+    ("||", 1),
+    ("x", 1),
+    ("--help", 1),
+    ("card", 1),
+    ("card|", 1),
+    ("card|x", 4),
+    ("card| ", 4),
+    ("card|card", 4),
+    ("card|x|y", 1),
+    ("card|x|", 1),
+    ("|card|x", 1),
+    ("x|card", 1),
+    ("Card|x", 1),
+    ("CARD|x", 1),
+    ("cards|x", 1),
+    ("car|x", 1),
+    ("card |x", 1),
+    (" card|x", 1),
+    ("card x", 1),
+    ("check", 2),
+    ("check|", 1),
+    ("check|x", 1),
+    ("x|check", 1),
+    ("Check", 1),
+    ("checks", 1),
+    ("check ", 1),
+    ("replay", 2),
+    ("replay|", 1),
+    ("replay|x", 1),
+    ("Replay", 1),
+    ("ipa", 1),
+    ("ipa|", 1),
+    ("ipa|000102030405060708090a0b0c0d0e0f", 2),
+    ("ipa|000102030405060708090A0B0C0D0E0F", 2),
+    ("ipa|FfFfFfFfFfFfFfFfFfFfFfFfFfFfFfFf", 2),
+    ("ipa|000102030405060708090a0b0c0d0e", 1),
+    ("ipa|000102030405060708090a0b0c0d0e0", 1),
+    ("ipa|000102030405060708090a0b0c0d0e0f0", 1),
+    ("ipa|000102030405060708090a0b0c0d0e0f00", 1),
+    ("ipa|000102030405060708090a0b0c0d0e0g", 1),
+    ("ipa|0x0102030405060708090a0b0c0d0e0f", 1),
+    ("ipa|000102030405060708090a0b0c0d0e0f|x", 1),
+    ("ipa|e1|000102030405060708090a0b0c0d0e0f", 1),
+    ("IPA|000102030405060708090a0b0c0d0e0f", 1),
+    ("eim|e1", 1),
+    ("eim|000102030405060708090a0b0c0d0e0f", 1),
+    ("eim|e|000102030405060708090a0b0c0d0e0f", 2),
+    ("eim|e1|000102030405060708090A0B0C0D0E0F", 2),
+    ("eim||000102030405060708090a0b0c0d0e0f", 1),
+    ("eim|e1|", 1),
+    ("eim|e1|000102030405060708090a0b0c0d0e0", 1),
+    ("eim|e1|000102030405060708090a0b0c0d0e0f|x", 1),
+    ("eim|e 1|000102030405060708090a0b0c0d0e0f", 1),
+    ("eim|e/1|000102030405060708090a0b0c0d0e0f", 1),
+    ("eim|é|000102030405060708090a0b0c0d0e0f", 1),
+    ("Eim|e1|000102030405060708090a0b0c0d0e0f", 1),
+    // an identifier of 128 octets, and one of 129
+    (
+        "eim|0123456789ABCDEFGHIJKLMNOPQRSTUVWXYZabcdefghijklmnopqrstuvwxyz-_\
+        0123456789ABCDEFGHIJKLMNOPQRSTUVWXYZabcdefghijklmnopqrstuvwxyz-_\
+        |000102030405060708090a0b0c0d0e0f",
+        2,
+    ),
+    (
+        "eim|0123456789ABCDEFGHIJKLMNOPQRSTUVWXYZabcdefghijklmnopqrstuvwxyz-_\
+        0123456789ABCDEFGHIJKLMNOPQRSTUVWXYZabcdefghijklmnopqrstuvwxyz-_.\
+        |000102030405060708090a0b0c0d0e0f",
+        1,
+    ),
+    ("gen|1|1", 3),
+    ("gen|0|100000", 3),
+    ("gen|2147483647|1", 3),
+    ("gen|2147483648|5", 1),
+    ("gen|1|0", 1),
+    ("gen|0|100001", 1),
+    // 2^32 + 1 and 2^64 + 1
+    ("gen|4294967297|1", 1),
+    ("gen|1|4294967297", 1),
+    ("gen|18446744073709551617|1", 1),
+    ("gen|1|18446744073709551617", 1),
+    ("gen|01|1", 1),
+    ("gen|1|01", 1),
+    ("gen|00|1", 1),
+    ("gen|+1|1", 1),
+    ("gen|1|+1", 1),
+    ("gen|-1|1", 1),
+    ("gen|-0|1", 1),
+    ("gen| 1|1", 1),
+    ("gen|1|1 ", 1),
+    ("gen|0x1|1", 1),
+    ("gen|1|1.0", 1),
+    ("gen|1|1_000", 1),
+    ("gen|last|1", 1),
+    ("gen||1", 1),
+    ("gen|1|", 1),
+    ("gen", 1),
+    ("gen|1", 1),
+    ("gen|1|1|1", 1),
+    ("GEN|1|1", 1),
+];
+
+/// The status over a chip and a source of which the first call fails, and a sink with room for a
+/// stop record alone: it tells what the words ask for. Words without a form send nothing.
+fn status_over_faults(alloc: Global, words: &[String]) -> Result<u8, Fail> {
+    let mut failing = Row::new(alloc);
+    failing.append(&[0])?;
+    let mut chip = MemChip::new(alloc, failing)?;
+    let edge = Edge {
+        failing: &[0],
+        room: 12,
+        ..WHOLE
+    };
+    let (status, sent) = ran(alloc, words, &Row::new(alloc), &edge, &mut chip)?;
+    if status == 1 && !sent.is_empty() {
+        return Err("words without a form sent something".into());
     }
+    Ok(status)
+}
+
+#[test]
+fn command_lines(rt: HostRuntime) -> Result<(), Fail> {
+    let alloc = rt.alloc();
+    for (line, status) in COMMAND_LINES {
+        let words = words_of(alloc, line)?;
+        assert_eq!(rt; status_over_faults(alloc, &words)?, status, "of {line}");
+    }
+    assert_eq!(rt; status_over_faults(alloc, &[])?, 1);
     // a word that isn't UTF-8 is invalid data
     assert_eq!(rt; status_of(&io::Error::from(ErrorKind::InvalidData)), 1);
     assert_eq!(rt; status_of(&io::Error::from(ErrorKind::OutOfMemory)), 6);
+    Ok(())
+}
+
+/// What the words of a command line give.
+#[test]
+fn values_of_words(rt: HostRuntime) -> Result<(), Fail> {
+    let alloc = rt.alloc();
+    let id = EimId::of(b"e1")?;
+    let eid = Eid::of(&[0, 1, 2, 3, 4, 5, 6, 7, 8, 9, 10, 11, 12, 13, 14, 15])?;
+    let start = 2_147_483_647;
+    let lines = 100_000;
+    let cases = [
+        ("card|x", Form::Card),
+        ("check", Form::Check),
+        ("replay", Form::Replay),
+        ("ipa|000102030405060708090A0b0C0d0E0f", Form::Ipa { eid }),
+        (
+            "eim|e1|000102030405060708090A0B0C0D0E0F",
+            Form::Eim { id, eid },
+        ),
+        ("gen|2147483647|100000", Form::Gen { start, lines }),
+    ];
+    for (line, form) in cases {
+        let words = words_of(alloc, line)?;
+        assert!(rt; form_of_words(&words) == Some(form), "of {line}");
+    }
+    Ok(())
+}
+
+/// Runs of `card` one after the other: the file, what is asked, the status, and what is sent.
+const RUNS: [(&str, &[&str], u8, &[&str]); 8] = [
+    // a new file, which a run without a frame leaves without a card
+    ("new", &[], 0, &[]),
+    (
+        "new",
+        &[PERSONALISE, INITIAL, LOAD],
+        0,
+        &[PERSONALISED, ASSOCIATED, LOADED],
+    ),
+    // a further run goes on with that card
+    (
+        "new",
+        &[PERSONALISE, INITIAL, LOAD, "8400"],
+        0,
+        &[
+            "8c00",
+            "aa03800101",
+            "a209 800106 810101 820101",
+            "a716 3014 800101 81026531 820101 830101 a405a003800100",
+        ],
+    ),
+    // another file is another card
+    ("other", &[PERSONALISE], 0, &[PERSONALISED]),
+    // what isn't a card stays so unless a first frame makes one
+    ("text", &[], 0, &[]),
+    ("text", &["8400"], 8, &["ad06 800108 810101"]),
+    // files that can't be had
+    ("no/such/folder", &[PERSONALISE], 4, &["ad06 800104 810100"]),
+    (".", &[PERSONALISE], 4, &["ad06 800104 810100"]),
+];
+
+#[test]
+fn cards_in_files(rt: HostRuntime) -> Result<(), Fail> {
+    let alloc = rt.alloc();
+    fs::write(&rt, "text", "no card")?;
+    for (path, asked, status, answered) in RUNS {
+        let words = [
+            String::from_str(alloc, "card")?,
+            String::from_str(alloc, path)?,
+        ];
+        let input = frames(alloc, asked, "")?;
+        let mut chip = FileChip::at(&rt, path);
+        let (ended, sent) = ran(alloc, &words, &input, &WHOLE, &mut chip)?;
+        assert_eq!(rt; ended, status, "over {path}");
+        assert!(rt; sent == frames(alloc, answered, "")?, "over {path}");
+    }
+    assert!(rt; fs::read(&rt, "text")?.as_slice() == b"no card".as_slice());
     Ok(())
 }

@@ -6,3 +6,6 @@ mod replay_part;
 mod replaying;
 
 pub use replaying::run_replay;
+
+#[cfg(test)]
+mod tests;

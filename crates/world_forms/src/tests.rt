@@ -1,0 +1,198 @@
+//! The worked examples, and what no clause says: texts, however they come and go.
+
+ghost use Rattle.std.specs.Prelude.{◌≡◌, ◌++◌, OnErr, OnOk, length, take};
+ghost use Rattle.modem_bank.specs.Modems.{told_one};
+ghost use Rattle.small_world.specs.Texts.{modem_entry};
+
+use super::*;
+use chip_port::MemChip;
+use iot_bytes::{MemSink, MemSource, NoMemory, Row};
+use modem_bank::{Modem, PlainModem, SplitModem, tell_one};
+use sgp_values::Iccid;
+use std::alloc::Global;
+use std::test::Fail;
+use world_text::put_modem;
+
+/// A source gives so many octets a call and fails at the named calls; a sink takes so many in all,
+/// and fails at the named calls.
+#[derive(Clone, Copy)]
+struct Edge<'a> {
+    piece: usize,
+    failing: &'a [u64],
+    room: usize,
+    refusing: &'a [u64],
+}
+
+const WHOLE: Edge<'static> = Edge {
+    piece: 1 << 20,
+    failing: &[],
+    room: 1 << 20,
+    refusing: &[],
+};
+
+fn numbers(alloc: Global, calls: &[u64]) -> Result<Row<u64>, Fail> {
+    let mut out = Row::new(alloc);
+    out.append(calls)?;
+    Ok(out)
+}
+
+/// The status of a replay of this schedule over a new chip, whose first calls may fail, with a plain
+/// modem and a split one, and what was sent.
+fn replayed(
+    alloc: Global,
+    schedule: &str,
+    edge: &Edge<'_>,
+    broken: &[u64],
+) -> Result<(u8, Row<u8>), Fail> {
+    let mut input = Row::new(alloc);
+    input.append(schedule.as_bytes())?;
+    let mut source = MemSource::new(input, edge.piece.max(1), numbers(alloc, edge.failing)?);
+    let mut sink = MemSink::new(
+        alloc,
+        edge.room,
+        edge.piece.max(1),
+        numbers(alloc, edge.refusing)?,
+    )?;
+    let mut chip = MemChip::new(alloc, numbers(alloc, broken)?)?;
+    let mut modems: Vec<Box<dyn Modem>> = Vec::new(alloc);
+    modems.push(Box::new(alloc, PlainModem::new())?)?;
+    modems.push(Box::new(alloc, SplitModem::new())?)?;
+    let status = run_replay(
+        alloc,
+        &mut source,
+        &mut sink,
+        &mut chip,
+        &mut modems,
+        |modem: &mut Box<dyn Modem>, now: &Option<Iccid>|
+            ensures { (shown_iccid modem.new, refresh_count modem.new)
+                ≡ told_one now.now (shown_iccid modem.old, refresh_count modem.old) }
+        { tell_one(&mut **modem, now) },
+        |out: &mut Row<u8>, modem: &Box<dyn Modem>| -> Result<(), NoMemory>
+            ensures ok { OnOk result (out.new
+                ≡ out.old ++ modem_entry (shown_iccid modem.now, refresh_count modem.now)) }
+            ensures err { OnErr result (take (length out.old) out.new ≡ out.old) }
+        { put_modem(out, &modem.shows(), modem.refreshes()) },
+    );
+    let mut sent = Row::new(alloc);
+    sent.append(sink.taken())?;
+    Ok((status, sent))
+}
+
+/// Whether a replay ends with the status, and this text is sent.
+fn gives(
+    alloc: Global,
+    schedule: &str,
+    edge: &Edge<'_>,
+    status: u8,
+    sent: &[u8],
+) -> Result<bool, Fail> {
+    let (ended, taken) = replayed(alloc, schedule, edge, &[])?;
+    Ok(ended == status && taken.as_slice() == sent)
+}
+
+const DEVICE: &str = "device 000102030405060708090a0b0c0d0e0f -98440000000000000001% \
+    -98440000000000000002% -98440000000000000003%\n";
+
+/// A device gets back to the profile that works; two managers, and two modems.
+const WORKED: &str = "device 000102030405060708090a0b0c0d0e0f +98440000000000000001%686f6d65 \
+-98440000000000000002%726f616d -98440000000000000003%74657374\neim e1\neim e2\n\
+initial e1 @coaps://e1.example #04aa\nbind e1 1 0\norder e1 add:e2@coaps://e2.example#04bb\n\
+poll e1\nup 0\ndown 0\nbind e2 2 0\npush\nup 1\ndown 1\norder e2 enable!:98440000000000000002\n\
+poll e2\nup 2\ndown 2\nmodems\nprobe fail\nprobe fail\nprobe fail\npush\nup 3\npush\nup 4\ndown 4\n\
+down 3\nshow\nkept e2\nmodems\ndetach 0\nmodems\n";
+
+const TRACE: &str = "device 3\neim ok\neim ok\nassociated 1\nbound\nordered 1\nsent 0\n\
+reply 0 package\nloaded 1 add=0:2\nbound\nsent 1\nreply 1 ack 1\nremoved 1\nordered 1\nsent 2\n\
+reply 2 package\nloaded 2 enable=0\nmodems 98440000000000000002:2 98440000000000000002:2\n\
+strikes 1\nstrikes 2\nrolled 3\nsent 3\nreply 3 ack 3\nsent 4\nreply 4 ack 3\nremoved 3\nabsent 3\n\
+profiles +98440000000000000001 -98440000000000000002 -98440000000000000003 \
+eims e1/1/1 e2/2/1 pending\nkept 2/1/3r\nmodems 98440000000000000001:3 98440000000000000001:3\n\
+detached\nmodems 98440000000000000001:3\n";
+
+/// Schedules behind the device and its first manager, and what is printed for them. A cut at call 59
+/// of a package comes as the gate of the journal is closed.
+const BEHIND: [(&str, &str); 5] = [
+    (
+        "order e1 enable:98440000000000000002\npoll e1\nup last\ncut 59 old\ndown last\ndown last\n\
+         boot\nshow\ncut 59 new\ndown last\nboot\nshow\ndown last\n",
+        "ordered 1\nsent 0\nreply 0 package\nplanned\nlost\noff\nbooted\n\
+         profiles -98440000000000000001 -98440000000000000002 -98440000000000000003 eims e1/1/0 \
+         pending\nplanned\nlost\nbooted\nprofiles -98440000000000000001 +98440000000000000002 \
+         -98440000000000000003 eims e1/1/1 pending 1/e1/1/1\n\
+         refused 6 kept 1 received 1 sent 1\n",
+    ),
+    (
+        "cut 0 junk\nboot\nshow\nrollback\nboot\nrollback\nmodems\n",
+        "planned\nlost\noff\noff\nbooted\nnot permitted\nmodems -:0 -:0\n",
+    ),
+    (
+        "probe fail\nprobe fail\ncut 0 old\nprobe fail\nprobe fail\nboot\nprobe fail\nprobe ok\n",
+        "strikes 1\nstrikes 2\nplanned\nlost\nstrikes 1\nbooted\nstrikes 2\nstrikes 0\n",
+    ),
+    (
+        "poll e2\nup 0\ndown last\nkept e2\nskip e2\ndetach 2\nskip e1\npush\nrestart\neim e1\n",
+        "no such\nno such\nno such\nno such\nno such\nno such\nnone waiting\nnothing pending\n\
+         restarted\neim exists\n",
+    ),
+    (
+        "load good 00\nload bad 00\ncut 3 new\nboot\nload good 00\n",
+        "refused 1\nrefused 1\nplanned\nlost\noff\n",
+    ),
+];
+
+#[test]
+fn schedules_replayed(rt: HostRuntime) -> Result<(), Fail> {
+    let alloc = rt.alloc();
+    for piece in [1, 3, 1 << 20] {
+        let edge = Edge { piece, ..WHOLE };
+        assert!(rt;
+            gives(alloc, WORKED, &edge, 0, TRACE.as_bytes())?,
+            "by {piece}"
+        );
+    }
+    for (lines, printed) in BEHIND {
+        let mut schedule = String::from_str(alloc, DEVICE)?;
+        schedule.push_str("eim e1\ninitial e1 @ #\nbind e1 1 0\n")?;
+        schedule.push_str(lines)?;
+        let mut trace = Row::new(alloc);
+        trace.append(b"device 3\neim ok\nassociated 1\nbound\n")?;
+        trace.append(printed.as_bytes())?;
+        assert!(rt;
+            gives(alloc, schedule.as_str(), &WHOLE, 0, trace.as_slice())?,
+            "for {lines}"
+        );
+    }
+    Ok(())
+}
+
+/// Schedules that stop, the status, and what is sent.
+const STOPPED: [(&str, u8, &str); 5] = [
+    ("", 5, "stopped 5 1\n"),
+    ("eim e1\n", 5, "stopped 5 1\n"),
+    (
+        "device 000102030405060708090a0b0c0d0e0f\n\n",
+        5,
+        "device 0\nstopped 5 2\n",
+    ),
+    (
+        "device 000102030405060708090a0b0c0d0e0f\nboot\nbooted\nboot\n",
+        5,
+        "device 0\nbooted\nstopped 5 3\n",
+    ),
+    ("device 000102030405060708090a0b0c0d0e0f", 0, "device 0\n"),
+];
+
+#[test]
+fn schedules_that_stop(rt: HostRuntime) -> Result<(), Fail> {
+    let alloc = rt.alloc();
+    for (schedule, status, sent) in STOPPED {
+        assert!(rt;
+            gives(alloc, schedule, &WHOLE, status, sent.as_bytes())?,
+            "for {schedule}"
+        );
+    }
+    let (status, sent) = replayed(alloc, STOPPED[3].0, &WHOLE, &[0])?;
+    assert_eq!(rt; status, 4);
+    assert!(rt; sent.as_slice() == "stopped 4 1\n".as_bytes());
+    Ok(())
+}
