@@ -1,5 +1,5 @@
 -- What a run reads and sends and makes of its bench, by the form of its words and its status.
-use Rattle.std.specs.Prelude.{◌≡◌, ◌≢◌, ℕ, ◌≤◌, ◌⊎◌, List, [], ◌++◌, length, Option, Some, None}
+use Rattle.std.specs.Prelude.{◌≡◌, ◌≢◌, ℕ, ◌⊎◌, List, [], ◌++◌, length, Option, Some, None}
 use Rattle.run_loop.specs.Edges.{Edge}
 use Rattle.chip_port.specs.Seen.{Seen}
 use Rattle.lone_card.specs.Runs.{Served}

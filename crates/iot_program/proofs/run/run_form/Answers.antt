@@ -1,4 +1,4 @@
-use Rattle.std.proofs.Common.{arith, inl, inr, refl, sym, subst}
+use Rattle.std.proofs.Common.{arith, inl, inr, refl, rules, sym, subst}
 use Rattle.iot_program.specs.declared.words.Form.{Form}
 use Rattle.iot_program.specs.Ends.{HandledBy, StopsBy}
 use Rattle.iot_program.proofs.Serving.{does_of}
