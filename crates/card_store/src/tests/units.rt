@@ -100,25 +100,35 @@ const TEARS: [(Tear, u32); 4] = [
     (Tear::Junk, COMMIT),
 ];
 
+// Whether a commit that is cut so many calls in leaves the new home, or else the old one, and ends well
+// exactly where it is whole.
+fn leaves(
+    alloc: Global,
+    homes: &[Row<u8>; 2],
+    calls: u32,
+    tear: Tear,
+    is_new: bool,
+) -> Result<bool, Fail> {
+    let [before, after] = homes;
+    let mut chip = chip_of(alloc, before.as_slice())?;
+    let new = card_of(alloc, after.as_slice())?;
+    let ended = cut(alloc, &mut chip, new, calls, tear)?;
+    let stands = if is_new {
+        home_is(&mut chip, after.as_slice())?
+    } else {
+        home_is(&mut chip, before.as_slice())?
+    };
+    Ok(stands && ended == (calls == COMMIT))
+}
+
 #[test]
 fn a_commit_that_is_cut(rt: HostRuntime) -> Result<(), Fail> {
     let alloc = rt.alloc();
-    let (before, after) = (full_home(alloc, 0)?, full_home(alloc, 1)?);
-    let new = card_of(alloc, after.as_slice())?;
-    let mut chip = chip_of(alloc, before.as_slice())?;
-    for step in 0..4 * (COMMIT + 1) {
-        let calls = step / 4;
-        let (tear, first) = TEARS[(step % 4) as usize];
-        let ended = cut(alloc, &mut chip, new.copy(alloc)?, calls, tear)?;
-        let is_new = calls >= first;
-        let wanted = if is_new { &after } else { &before };
-        assert!(rt;
-            home_is(&mut chip, wanted.as_slice())?,
-            "{tear:?} at {calls}"
-        );
-        assert_eq!(rt; ended, calls == COMMIT, "{tear:?} at {calls}");
-        if is_new {
-            chip = chip_of(alloc, before.as_slice())?;
+    let homes = [full_home(alloc, 0)?, full_home(alloc, 1)?];
+    for (tear, first) in TEARS {
+        for calls in 0..=COMMIT {
+            let left = leaves(alloc, &homes, calls, tear, calls >= first)?;
+            assert!(rt; left, "{tear:?} at {calls}");
         }
     }
     Ok(())
