@@ -1,7 +1,7 @@
 //! What replays the lines of a schedule.
 
-ghost use Rattle.std.specs.Prelude.{◌≡◌, ◌++◌, ◌∷◌, [], ℕ, List, map, Some, None, Ok, Err, IfOk, OnOk};
-ghost use Rattle.std.specs.Prelude.{OnErr};
+ghost use Rattle.std.specs.Prelude.{◌≡◌, ◌++◌, ◌∷◌, [], ℕ, List, map, Some, None};
+ghost use Rattle.std.specs.Prelude.{Ok, Err, IfOk, OnOk, OnErr};
 ghost use Rattle.card_store.specs.Looking.{HasCauseOf};
 ghost use Rattle.chip_port.specs.Rules.{IfTold};
 ghost use Rattle.euicc_core.specs.Steps.{IsLitOn};
