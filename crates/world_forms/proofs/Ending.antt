@@ -23,7 +23,8 @@ use Rattle.schedule_forms.specs.Grammar.{AreInGrammar}
 use Rattle.schedule_forms.specs.Schedules.{AreHandled, PassesLimit, IsUnfit}
 use Rattle.schedule_forms.proofs.Ending.{all_lines, has_past}
 use Rattle.schedule_forms.proofs.Stopping.{unfit_breaks, limit_breaks, limit_or_unfit, one_place, whole_goes_on}
-use Rattle.world_forms.specs.Ends.{IsTextOf, IsHindered, EndsWell, HasStopped, StopsWith}
+use Rattle.world_forms.specs.Courses.{HasRun}
+use Rattle.world_forms.specs.Ends.{IsTextOf, IsDone, IsHindered, EndsWell, HasStopped, StopsWith}
 use Rattle.world_forms.specs.Replays.{EndsReplay, IsReplayed, IsUnbegun, Replayed, Replays, Stops, StopsReplay}
 
 -- how the lines of a replay ended
@@ -238,3 +239,40 @@ stops handed_in status old new s t modems input ls more r bench told is handled 
           let behind = subst (λ (z : List (List ℕ)). IsHindered handed_in s t modems z status) is hindered in
           record { limit = λ past. inr behind; unfit = λ bad. inr behind }
     ]
+
+-- a replay that ended with status 0 sent the trace of all lines
+some_run : (handed_in : List ModemSeen) (ls : List (List ℕ)) (text : List ℕ) → ls ≢ [] → IsTextOf handed_in ls text → HasRun handed_in ls text
+some_run handed_in ls text some (inl none) = absurd (some none.0)
+some_run handed_in ls text some (inr has) = has
+
+done_at : (handed_in : List ModemSeen) (s t : Seen) (modems : List ModemSeen) (rest0 rest sent0 sent : Option (List ℕ)) (input : List ℕ) (ls : List (List ℕ)) (text closing : List ℕ) (halt : Halt) (ended : Result (Unit {0}) SendStop) → exit_status halt ended ≡ 0 → s.told ≡ true → rest0 ≡ Some input → length ls ≤ MOST_LINES
+    → Reason (Replays handed_in s t modems) (StopsReplay handed_in s t modems) rest0 rest ls text halt → Concludes EndsReplay ls text closing halt → SentFor sent0 sent (length ls) text closing halt ended → IsDone handed_in input rest sent0 sent
+done_at handed_in s t modems rest0 rest sent0 sent input ls text closing halt (Err sending.Fault) zero bench told few r c said = absurd cc
+done_at handed_in s t modems rest0 rest sent0 sent input ls text closing halt (Err sending.NoMemory) zero bench told few r c said = absurd cc
+done_at handed_in s t modems rest0 rest sent0 sent input ls text closing (Reading reading.End) (Ok done) zero bench told few r c said =
+    let (tail, taken, at) = r.1 input told in
+    let all : ls ≡ lines_of input = sym (all_lines ls input tail taken at.0 ∙ append-nil ls) in
+    let has = some_run handed_in ls text c.0 (told_text handed_in s t modems ls text (r.0.told bench)) in
+    record {
+      to_end = at.1;
+      handled = subst AreHandled all (are_handled ls input tail few taken r.0.fit);
+      text = text;
+      run = subst (λ (z : List (List ℕ)). HasRun handed_in z text) all has;
+      has_sent = subst (λ (z : List ℕ). HasSent sent0 sent z) (ap (λ (z : List ℕ). text ++ z) c.1 ∙ append-nil text) said;
+    }
+done_at handed_in s t modems rest0 rest sent0 sent input ls text closing (Reading reading.Fault) (Ok done) zero bench told few r c said = absurd cc
+done_at handed_in s t modems rest0 rest sent0 sent input ls text closing (Reading reading.Limit) (Ok done) zero bench told few r c said = absurd cc
+done_at handed_in s t modems rest0 rest sent0 sent input ls text closing (Reading reading.NoMemory) (Ok done) zero bench told few r c said = absurd cc
+done_at handed_in s t modems rest0 rest sent0 sent input ls text closing (Handling handling.ChipFault) (Ok done) zero bench told few r c said = absurd cc
+done_at handed_in s t modems rest0 rest sent0 sent input ls text closing (Handling handling.Malformed) (Ok done) zero bench told few r c said = absurd cc
+done_at handed_in s t modems rest0 rest sent0 sent input ls text closing (Handling handling.Limit) (Ok done) zero bench told few r c said = absurd cc
+done_at handed_in s t modems rest0 rest sent0 sent input ls text closing (Handling handling.Unrecognised) (Ok done) zero bench told few r c said = absurd cc
+done_at handed_in s t modems rest0 rest sent0 sent input ls text closing (Handling handling.NoMemory) (Ok done) zero bench told few r c said = absurd cc
+done_at handed_in s t modems rest0 rest sent0 sent input ls text closing (Ending ending.Missing) (Ok done) zero bench told few r c said = absurd cc
+done_at handed_in s t modems rest0 rest sent0 sent input ls text closing (Ending ending.NoMemory) (Ok done) zero bench told few r c said = absurd cc
+done_at handed_in s t modems rest0 rest sent0 sent input ls text closing Sending (Ok done) zero bench told few r c said = absurd cc
+
+pub is_done : (handed_in : List ModemSeen) (status : ℕ) (old new : Edge) (s t : Seen) (modems : List ModemSeen) (input : List ℕ) → Replayed handed_in status old new s t modems → s.told ≡ true → old.rest ≡ Some input → status ≡ 0 → IsDone handed_in input new.rest old.sent new.sent
+is_done handed_in status old new s t modems input r bench told zero =
+    let e = r.ended in
+    done_at handed_in s t modems old.rest new.rest old.sent new.sent input e.lines e.text e.closing r.end.halt r.end.closing (sym r.says ∙ zero) bench told e.few e.reason e.concludes e.sent

@@ -1,11 +1,12 @@
 -- How a replay ends over lines that are a schedule, and over lines that stop being one, where neither the source nor
 -- the sink fails.
-use Rattle.std.specs.Prelude.{◌≡◌, ◌⊎◌, ℕ, ◌+◌, List, [], ◌∷◌, ◌++◌, length, Option}
+use Rattle.std.specs.Prelude.{◌≡◌, ◌⊎◌, ℕ, ◌+◌, List, [], ◌∷◌, ◌++◌, length, Option, Some}
 use Rattle.chip_port.specs.Seen.{Seen}
+use Rattle.line_loop.specs.Lines.{lines_of}
 use Rattle.line_loop.specs.Sends.{stop_line}
 use Rattle.modem_bank.specs.Modems.{Seen as ModemSeen}
 use Rattle.run_loop.specs.Sends.{HasSent}
-use Rattle.schedule_forms.specs.Schedules.{PassesLimit, IsUnfit}
+use Rattle.schedule_forms.specs.Schedules.{AreHandled, PassesLimit, IsUnfit}
 use Rattle.world_card.specs.Starts.{IsUnstarted}
 use Rattle.world_forms.specs.Courses.{HasRun}
 use Rattle.world_forms.specs.Replays.{IsOverBehind}
@@ -22,6 +23,14 @@ pub record IsOver (handed_in : List ModemSeen) (s t : Seen) (modems : List Modem
   pub parts : all ≡ front ++ line ∷ after
   pub text : List ℕ
   pub over : IsOverBehind handed_in s t modems front text line
+
+-- The input was read to its end, its lines are a schedule within the limits, and the trace of their run was sent.
+pub record IsDone (handed_in : List ModemSeen) (input : List ℕ) (rest sent0 sent : Option (List ℕ)) : Type 0 where
+  pub to_end : rest ≡ Some []
+  pub handled : AreHandled (lines_of input)
+  pub text : List ℕ
+  pub run : HasRun handed_in (lines_of input) text
+  pub has_sent : HasSent sent0 sent text
 
 -- What may end a replay besides its lines: memory, a message over the limit, and a call that failed while the card was
 -- personalised.

@@ -1,6 +1,6 @@
 use Rattle.std.proofs.Common.{map, refl}
 use Rattle.line_loop.proofs.Mapping.{ended_map}
-use Rattle.world_forms.proofs.Ending.{complete, stops}
+use Rattle.world_forms.proofs.Ending.{complete, is_done, stops}
 use Rattle.world_forms.proofs.Fitting.{either}
 use Rattle.world_forms.proofs.replaying.run_replay.Goals as goal
 
@@ -14,6 +14,9 @@ returns-clause-replayed g c = λ view tells puts. record {
       (λ ls text end few was. was refl)
       c.serve_lines.ensures;
 }
+
+pub returns-clause-done : goal.returns-clause-done
+returns-clause-done g c = λ view input tells puts told rest zero. is_done _ c.status.result _ _ _ _ _ input (returns-clause-replayed g c view tells puts) told rest zero
 
 pub returns-clause-complete : goal.returns-clause-complete
 returns-clause-complete g c = λ view input tells puts told rest some handled no_read no_write.
