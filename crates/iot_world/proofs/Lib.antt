@@ -12,3 +12,6 @@ mod Attaching
 mod Attending
 mod Idling
 mod Ranging
+mod Halting
+mod Handing
+mod Showing

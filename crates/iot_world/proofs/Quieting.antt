@@ -1,6 +1,6 @@
 -- What lines print that don't reach the card, and what they make of the network.
 use Rattle.std.proofs.Common.{◌≡◌, ◌≢◌, ℕ, ◌-◌, Bool, true, false, cond, List, ◌++◌, length, Option, Some, None, Result, Ok, Err, refl, sym, ◌∙◌, ap, subst, arith}
-use Rattle.std.specs.Prelude.{OnOk, IfOk, option_map, codes, not}
+use Rattle.std.specs.Prelude.{IfOk, option_map, codes, not}
 use Rattle.std.proofs.lemmas.Bool.{false≢true}
 use Rattle.std.proofs.lemmas.List.{length-append}
 use Rattle.esipa_codec.specs.Assistant.{act_of, poll}
@@ -12,7 +12,6 @@ use Rattle.esipa_codec.specs.declared.ends.OrderEnd.{OrderEnd}
 use Rattle.esipa_codec.specs.declared.ends.OrderEnd.TheVariants as booked
 use Rattle.esipa_codec.specs.declared.messages.Post.{Post}
 use Rattle.eim_queue.specs.Queues.{IfOrdered}
-use Rattle.iot_bytes.specs.declared.memory.NoMemory.{NoMemory}
 use Rattle.iot_schedule.specs.declared.types.Line.{Line}
 use Rattle.iot_schedule.specs.declared.types.Line.TheVariants as line
 use Rattle.iot_schedule.specs.declared.types.Pick.{Pick}
@@ -28,7 +27,6 @@ use Rattle.trace_text.specs.Texts.{kept_text}
 use Rattle.world_network.proofs.Standing.{polled_known}
 use Rattle.world_network.specs.Networks.{Parts, IsNetwork, heard_of, said_to, up_end}
 use Rattle.iot_world.specs.Asking.{Says}
-use Rattle.iot_world.specs.Halting.{halting}
 use Rattle.iot_world.specs.Quiet.{QuietEnd}
 use Rattle.iot_world.specs.declared.ends.Halt.{Halt}
 use Rattle.iot_world.specs.declared.ends.Halt.TheVariants.{Limit, Foreign, NoMemory as NoRoom}
@@ -39,11 +37,6 @@ worded l w word (Ok done) now before out says text network = record { says = say
 worded l w word (Err Limit) now before out says text network = absurd says
 worded l w word (Err Foreign) now before out says text network = says
 worded l w word (Err NoRoom) now before out says text network = tt
-
--- a text that needs memory, as a word
-pub halted : (text before out : List ℕ) (put : Result (Unit {0}) NoMemory) (r : Result (Unit {0}) Halt) → r ≡ halting put → OnOk put (out ≡ before ++ text) → Says text before out r
-halted text before out (Ok done) r is says = subst (λ (x : Result (Unit {0}) Halt). Says text before out x) (sym is) says
-halted text before out (Err e) r is says = subst (λ (x : Result (Unit {0}) Halt). Says text before out x) (sym is) tt
 
 -- an option that holds something
 abbrev HasOne : {X : Type 0} → Option X → Type 0

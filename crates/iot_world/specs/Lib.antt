@@ -8,3 +8,4 @@ pub mod Commanding
 pub mod Carrying
 pub mod Turns
 pub mod Starts
+pub mod Handing

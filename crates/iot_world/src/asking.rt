@@ -11,7 +11,7 @@ ghost use Rattle.world_text.specs.Removing.{removed_by};
 ghost use Rattle.iot_world.specs.Asking.{AreFew, Asks, Says, SaysSilent, Tells};
 ghost use Rattle.iot_world.specs.Worlds.{StandsFor};
 
-use crate::ends::{Halt, of_send};
+use crate::ends::{Halt, halting, of_send};
 use crate::world::World;
 use chip_port::Bench;
 use iot_bytes::{NoMemory, Row};
@@ -50,13 +50,11 @@ pub(crate) fn removed_by(command: &Command) -> Option<u32>
 }
 
 /// Appends a word, or halts.
+#[tactic(auto, using(crate::proofs::Halting::halted))]
 pub(crate) fn put_word(out: &mut Row<u8>, word: &[u8]) -> Result<(), Halt>
     ensures { Says word.now out.old out.new result }
 {
-    match out.append(word) {
-        Ok(()) => Ok(()),
-        Err(NoMemory) => Err(Halt::NoMemory),
-    }
+    halting(out.append(word))
 }
 
 // The card said nothing: this is printed.

@@ -16,7 +16,7 @@ ghost use Rattle.iot_world.specs.Steps.{Acts};
 ghost use Rattle.iot_world.specs.Worlds.{StandsFor};
 
 use crate::asking::{Asked, put_word};
-use crate::ends::Halt;
+use crate::ends::{Halt, halting};
 use crate::world::World;
 use chip_port::Bench;
 use esipa_codec::Act;
@@ -27,14 +27,12 @@ use std::alloc::Global;
 use world_text::{put_also_sent, put_pushed, put_strikes};
 
 // Prints the places of the pending results that were sent.
+#[tactic(auto, using(crate::proofs::Halting::halted_pushed))]
 fn pushed(out: &mut Row<u8>, first: usize, sent: usize) -> Result<(), Halt>
     requires { first + sent < 2 ^ 64 }
     ensures { SaysPushed first sent out.old out.new result }
 {
-    match put_pushed(out, first, sent) {
-        Ok(()) => Ok(()),
-        Err(NoMemory) => Err(Halt::NoMemory),
-    }
+    halting(put_pushed(out, first, sent))
 }
 
 fn is_rollback(act: &Act) -> bool
@@ -59,24 +57,20 @@ fn command_of(act: Act) -> Option<Command>
 }
 
 // Prints how many probes failed in a row.
+#[tactic(auto, using(crate::proofs::Halting::halted))]
 fn strikes(out: &mut Row<u8>, strikes: u8) -> Result<(), Halt>
     ensures { Says (codes "strikes " ++ decimal strikes) out.old out.new result }
 {
-    match put_strikes(out, strikes) {
-        Ok(()) => Ok(()),
-        Err(NoMemory) => Err(Halt::NoMemory),
-    }
+    halting(put_strikes(out, strikes))
 }
 
 // Prints the places of what was sent besides.
+#[tactic(auto, using(crate::proofs::Halting::halted_also))]
 fn also_sent(out: &mut Row<u8>, first: usize, sent: usize) -> Result<(), Halt>
     requires { first + sent < 2 ^ 64 }
     ensures { SaysAlso first sent out.old out.new result }
 {
-    match put_also_sent(out, first, sent) {
-        Ok(()) => Ok(()),
-        Err(NoMemory) => Err(Halt::NoMemory),
-    }
+    halting(put_also_sent(out, first, sent))
 }
 
 impl World {

@@ -16,7 +16,7 @@ ghost use Rattle.iot_world.specs.Steps.{Acts};
 ghost use Rattle.iot_world.specs.Worlds.{StandsFor};
 
 use crate::asking::put_word;
-use crate::ends::Halt;
+use crate::ends::{Halt, halting};
 use crate::world::World;
 use chip_port::{Bench, Tear};
 use iot_bytes::{NoMemory, Row};
@@ -26,15 +26,13 @@ use std::alloc::Global;
 use world_card::{BootEnd, StepEnd};
 use world_text::put_said;
 
-// Prints what the card said to a command that removes no result.
-fn say(out: &mut Row<u8>, answer: &Answer) -> Result<(), Halt>
+/// Prints what the card said to a command that removes no result.
+#[tactic(auto, using(crate::proofs::Halting::halted))]
+pub(crate) fn say(out: &mut Row<u8>, answer: &Answer) -> Result<(), Halt>
     ensures { (c : Command) → removed_by c ≡ None
         → Says (said c answer.now) out.old out.new result }
 {
-    match put_said(out, None, answer) {
-        Ok(()) => Ok(()),
-        Err(NoMemory) => Err(Halt::NoMemory),
-    }
+    halting(put_said(out, None, answer))
 }
 
 impl World {

@@ -2,7 +2,9 @@
 
 ghost use Rattle.std.specs.Prelude.{◌≡◌};
 ghost use Rattle.iot_world.specs.Ends.{of_send};
+ghost use Rattle.iot_world.specs.Halting.{halting};
 
+use iot_bytes::NoMemory;
 use world_network::SendEnd;
 
 /// Why a line prints nothing. After it the world isn't stepped again.
@@ -24,5 +26,15 @@ pub(crate) fn of_send(end: SendEnd) -> Halt
     match end {
         SendEnd::Limit => Halt::Limit,
         SendEnd::NoMemory => Halt::NoMemory,
+    }
+}
+
+/// The line halts where memory ran out for its text.
+pub(crate) fn halting(put: Result<(), NoMemory>) -> Result<(), Halt>
+    ensures { result ≡ halting put }
+{
+    match put {
+        Ok(()) => Ok(()),
+        Err(NoMemory) => Err(Halt::NoMemory),
     }
 }

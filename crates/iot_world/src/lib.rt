@@ -1,6 +1,7 @@
-//! The world of a schedule: the card on its bench and the network around it. Each call is one line
-//! of a schedule, and one step of the small world, as it is defined in `small_world`, before the
-//! modems are told. `docs/WORLD.md` tells it.
+//! The world of a schedule: the card on its bench, the network around it, and the modems that it is
+//! lent. [`World::start`] is the first line of a schedule, and [`World::step`] any other, as one step
+//! of the small world, as it is defined in `small_world`. The other calls are one line each, before
+//! the modems are told. `docs/WORLD.md` tells it.
 #![tactic(auto)]
 
 mod asking;
@@ -8,9 +9,10 @@ mod assistant_lines;
 mod boxes;
 mod card_lines;
 mod ends;
+mod handing_lines;
 mod modem_lines;
-mod pending;
 mod quiet_lines;
+mod show_line;
 mod stepping;
 mod world;
 

@@ -11,7 +11,7 @@ ghost use Rattle.iot_world.specs.Turns.{KeepsBy, told_by, left_by};
 ghost use Rattle.small_world.specs.Printing.{printed};
 
 use crate::asking::put_word;
-use crate::ends::Halt;
+use crate::ends::{Halt, halting};
 use iot_bytes::{NoMemory, Row};
 use modem_bank::{DetachEnd, detach_at, tell_each};
 use sgp_values::Iccid;
@@ -41,10 +41,7 @@ pub(crate) fn print<T, G: Fn(&mut Row<u8>, &T) -> Result<(), NoMemory>>(
         → map view modems.now ≡ w.modems
         → Says (printed w line.Modems false) out.old out.new result }
 {
-    match put_modems_by(out, modems, put) {
-        Ok(()) => Ok(()),
-        Err(NoMemory) => Err(Halt::NoMemory),
-    }
+    halting(put_modems_by(out, modems, put))
 }
 
 /// Each modem is told the enabled profile by a lit card, and by a dark one nothing.

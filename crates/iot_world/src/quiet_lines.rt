@@ -1,16 +1,15 @@
 //! The lines that don't reach the card.
 
-ghost use Rattle.std.specs.Prelude.{◌≡◌, ◌≢◌, ◌≤◌, IfOk};
+ghost use Rattle.std.specs.Prelude.{◌≢◌, ◌≤◌, IfOk};
 ghost use Rattle.esipa_codec.specs.declared.ends.OrderEnd.{OrderEnd};
 ghost use Rattle.iot_schedule.specs.declared.types.Line.TheVariants as line;
 ghost use Rattle.small_card.specs.Ranges.{IsBody, IsNumber, greatest_counter};
 ghost use Rattle.small_world.specs.Texts.{no_such, order_text};
 ghost use Rattle.iot_world.specs.Asking.{Says};
-ghost use Rattle.iot_world.specs.Halting.{halting};
 ghost use Rattle.iot_world.specs.Quiet.{Quiets};
 
 use crate::asking::put_word;
-use crate::ends::{Halt, of_send};
+use crate::ends::{Halt, halting, of_send};
 use esipa_codec::OrderEnd;
 use iot_bytes::{NoMemory, Row};
 use iot_schedule::Pick;
@@ -20,16 +19,6 @@ use std::alloc::Global;
 use trace_text::put_kept;
 use world_network::Network;
 use world_text::{put_answer, put_bind, put_order, put_sent, put_skip};
-
-// The line halts where memory ran out for its text.
-fn halting(put: Result<(), NoMemory>) -> Result<(), Halt>
-    ensures { result ≡ halting put }
-{
-    match put {
-        Ok(()) => Ok(()),
-        Err(NoMemory) => Err(Halt::NoMemory),
-    }
-}
 
 // Prints that the named eIM or message isn't there.
 fn no_such(out: &mut Row<u8>) -> Result<(), Halt>

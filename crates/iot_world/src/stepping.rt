@@ -1,19 +1,17 @@
 //! A line of a schedule, whatever it is, and the first line before all of them.
 
-ghost use Rattle.std.specs.Prelude.{◌≡◌, ℕ, List, Option, map, IfOk, OnErr, None};
+ghost use Rattle.std.specs.Prelude.{◌≡◌, ℕ, List, Option, map, IfOk, OnErr};
 ghost use Rattle.card_store.specs.Looking.{HasCauseOf};
 ghost use Rattle.chip_port.specs.Rules.{IfTold};
 ghost use Rattle.euicc_core.specs.Steps.{IsLitOn};
 ghost use Rattle.iot_schedule.specs.Ranges.{IsDevice, IsStep};
-ghost use Rattle.modem_bank.specs.Modems.{Seen, is_shown, seen, told_one};
+ghost use Rattle.modem_bank.specs.Modems.{Seen};
 ghost use Rattle.modem_bank.specs.Telling.{KeepsOne, TellsOne};
-ghost use Rattle.small_world.specs.Texts.{modem_entry};
 ghost use Rattle.small_world.specs.Worlds.{SmallWorld};
 ghost use Rattle.world_text.specs.Putting.{PutsOne};
 ghost use Rattle.iot_world.specs.Starts.{Begins};
 ghost use Rattle.iot_world.specs.Steps.{Acts};
-ghost use Rattle.iot_world.specs.Turns.{KeepsBy, StandsWith, Turns, left_by, told_by};
-ghost use Rattle.iot_world.specs.Worlds.{StandsFor};
+ghost use Rattle.iot_world.specs.Turns.{KeepsBy, StandsWith, Turns, left_by};
 
 use crate::ends::Halt;
 use crate::modem_lines::{attend, detach, print};
@@ -22,13 +20,11 @@ use crate::world::World;
 use chip_port::Bench;
 use iot_bytes::{NoMemory, Row};
 use iot_schedule::{Device, Line};
-use modem_bank::{Modem, tell_one};
 use profile_table::Table;
 use sgp_values::Iccid;
 use std::alloc::Global;
 use world_card::{BenchCard, MakeError};
 use world_network::Network;
-use world_text::put_modem;
 
 impl World {
     /// Drops a plan that the bench has, personalises the device's card and tells the modems, each

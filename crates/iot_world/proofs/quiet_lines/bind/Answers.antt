@@ -1,6 +1,7 @@
 use Rattle.iot_schedule.specs.declared.types.Line.TheVariants as line
 use Rattle.small_world.specs.Texts.{bind_text, no_such}
-use Rattle.iot_world.proofs.Quieting.{bound_text, halted, unbound_text, worded}
+use Rattle.iot_world.proofs.Halting.{halted}
+use Rattle.iot_world.proofs.Quieting.{bound_text, unbound_text, worded}
 use Rattle.iot_world.proofs.quiet_lines.bind.Goals as goal
 
 pub returns-in-Some : goal.returns-in-Some

@@ -1,7 +1,8 @@
 use Rattle.iot_schedule.specs.declared.types.Line.TheVariants as line
 use Rattle.small_world.specs.Texts.{no_such}
 use Rattle.trace_text.specs.Texts.{kept_text}
-use Rattle.iot_world.proofs.Quieting.{halted, kept_network, records_text, unkept_text, worded}
+use Rattle.iot_world.proofs.Halting.{halted}
+use Rattle.iot_world.proofs.Quieting.{kept_network, records_text, unkept_text, worded}
 use Rattle.iot_world.proofs.quiet_lines.kept.Goals as goal
 
 pub returns-in-Some : goal.returns-in-Some

@@ -1,6 +1,7 @@
 use Rattle.iot_schedule.specs.declared.types.Line.TheVariants as line
 use Rattle.small_world.specs.Texts.{no_such, sent_text}
-use Rattle.iot_world.proofs.Quieting.{halted, polled_text, polls, polls_count, unpolled_text, worded}
+use Rattle.iot_world.proofs.Halting.{halted}
+use Rattle.iot_world.proofs.Quieting.{polled_text, polls, polls_count, unpolled_text, worded}
 use Rattle.iot_world.proofs.quiet_lines.poll.Goals as goal
 
 pub returns-in-Ok-true : goal.returns-in-Ok-true

@@ -1,6 +1,7 @@
 use Rattle.iot_schedule.specs.declared.types.Line.TheVariants as line
 use Rattle.small_world.specs.Texts.{no_such, skip_text}
-use Rattle.iot_world.proofs.Quieting.{halted, skipped_text, unskipped_text, worded}
+use Rattle.iot_world.proofs.Halting.{halted}
+use Rattle.iot_world.proofs.Quieting.{skipped_text, unskipped_text, worded}
 use Rattle.iot_world.proofs.quiet_lines.skip.Goals as goal
 
 pub returns-in-Some : goal.returns-in-Some

@@ -1,7 +1,8 @@
 use Rattle.std.proofs.Common.{sym, ◌∙◌}
 use Rattle.iot_schedule.specs.declared.types.Line.TheVariants as line
 use Rattle.small_world.specs.Texts.{answer_text, no_such}
-use Rattle.iot_world.proofs.Quieting.{gone_text, halted, ungone_text, worded}
+use Rattle.iot_world.proofs.Halting.{halted}
+use Rattle.iot_world.proofs.Quieting.{gone_text, ungone_text, worded}
 use Rattle.iot_world.proofs.quiet_lines.up.Goals as goal
 
 pub returns-in-Ok-Some : goal.returns-in-Ok-Some
