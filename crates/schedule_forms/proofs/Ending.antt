@@ -20,7 +20,7 @@ use Rattle.line_loop.specs.Status.{exit_status}
 use Rattle.line_loop.proofs.Mapping.{ended_map, status_one, status_two, status_three}
 use Rattle.line_loop.proofs.Taking.{lines_first, lines_short, line_first, front_first}
 use Rattle.schedule_forms.specs.Checks.{AreChecked, counted, Counted, StopsCheck, EndsWith, EndsCheck, ok_line}
-use Rattle.schedule_forms.specs.Schedules.{Checked, AreHandled}
+use Rattle.schedule_forms.specs.Schedules.{Checked, AreHandled, PassesLimit}
 use Rattle.schedule_forms.proofs.Counting.{ends_check}
 use Rattle.schedule_forms.proofs.Stopping.{HasEnded, with_zero, with_five, with_seven}
 
@@ -63,25 +63,32 @@ no_lines = refl
 pub all_lines : (ls : List (List ℕ)) (input tail : List ℕ) → AreTaken ls input tail → tail ≡ [] → lines_of input ≡ ls ++ []
 all_lines ls input tail taken none = lines_first ls input tail taken ∙ ap (λ (z : List ℕ). ls ++ lines_of z) none ∙ ap (λ (z : List (List ℕ)). ls ++ z) no_lines
 
-ended_past : (ls : List (List ℕ)) (text input tail : List ℕ) (left sent0 sent : Option (List ℕ)) → AreTaken ls input tail → AreHandled ls → IsTooLong tail left ⊎ ((length ls ≡ MOST_LINES) × HasLine tail left) → HasSent sent0 sent (stop_line 7 (length ls + 1)) → HasEnded 7 input sent0 sent
-ended_past ls text input tail left sent0 sent taken handled (inl over) line =
+-- behind these lines of an input the next one passes a limit
+pub record HasPast (ls : List (List ℕ)) (input : List ℕ) : Type 0 where
+  pub more : List (List ℕ)
+  pub parts : lines_of input ≡ ls ++ more
+  pub past : PassesLimit ls more
+
+pub has_past : (ls : List (List ℕ)) (input tail : List ℕ) (left : Option (List ℕ)) → AreTaken ls input tail → IsTooLong tail left ⊎ ((length ls ≡ MOST_LINES) × HasLine tail left) → HasPast ls input
+has_past ls input tail left taken (inl over) =
     let (unbroken, rest, parts, now) = over.came in
     let some : over.front ≢ [] = λ none. omega (arith, over.over, ap length none) in
     let longer = front_first over.front rest some unbroken in
     record {
-      lines = ls;
       more = (over.front ++ longer.more) ∷ longer.after;
       parts = lines_first ls input tail taken ∙ ap (λ (z : List ℕ). ls ++ lines_of z) parts ∙ ap (λ (z : List (List ℕ)). ls ++ z) longer.lines;
-      handled = handled;
-      outcome = with_seven 7 ls ((over.front ++ longer.more) ∷ longer.after) sent0 sent refl (inl (omega (arith, over.over, length-append over.front longer.more))) line;
+      past = inl (omega (arith, over.over, length-append over.front longer.more));
     }
-ended_past ls text input tail left sent0 sent taken handled (inr (count, one)) line = record {
-  lines = ls;
+has_past ls input tail left taken (inr (count, one)) = record {
   more = one.line ∷ lines_of one.rest;
   parts = lines_first ls input tail taken ∙ ap (λ (z : List (List ℕ)). ls ++ z) (line_first one.line tail one.rest one.taken);
-  handled = handled;
-  outcome = with_seven 7 ls (one.line ∷ lines_of one.rest) sent0 sent refl (inr count) line;
+  past = inr count;
 }
+
+ended_past : (ls : List (List ℕ)) (input tail : List ℕ) (left sent0 sent : Option (List ℕ)) → AreTaken ls input tail → AreHandled ls → IsTooLong tail left ⊎ ((length ls ≡ MOST_LINES) × HasLine tail left) → HasSent sent0 sent (stop_line 7 (length ls + 1)) → HasEnded 7 input sent0 sent
+ended_past ls input tail left sent0 sent taken handled at line =
+    let h = has_past ls input tail left taken at in
+    record { lines = ls; more = h.more; parts = h.parts; handled = handled; outcome = with_seven 7 ls h.more sent0 sent refl h.past line }
 
 -- how a check ended where neither the source nor the sink failed
 halted : (rest0 rest sent0 sent : Option (List ℕ)) (input : List ℕ) (ls : List (List ℕ)) (text closing : List ℕ) (halt : Halt) (ended : Result (Unit {0}) SendStop) → rest0 ≡ Some input → length ls ≤ MOST_LINES → Reason AreChecked StopsCheck rest0 rest ls text halt
@@ -101,7 +108,7 @@ halted rest0 rest sent0 sent input ls text closing (Reading reading.End) (Ok don
 halted rest0 rest sent0 sent input ls text closing (Reading reading.Fault) (Ok done) told few r c s no_read no_write no_last = absurd (no_read refl)
 halted rest0 rest sent0 sent input ls text closing (Reading reading.Limit) (Ok done) told few r c s no_read no_write no_last =
     let (tail, taken, at) = r.1 input told in
-    inr (ended_past ls text input tail rest sent0 sent taken (are_handled ls text input tail few taken r.0) at (alone sent0 sent text (stop_line 7 (length ls + 1)) r.0.silent s))
+    inr (ended_past ls input tail rest sent0 sent taken (are_handled ls text input tail few taken r.0) at (alone sent0 sent text (stop_line 7 (length ls + 1)) r.0.silent s))
 halted rest0 rest sent0 sent input ls text closing (Reading reading.NoMemory) (Ok done) told few r c s no_read no_write no_last = inl refl
 halted rest0 rest sent0 sent input ls text closing (Handling handling.ChipFault) (Ok done) told few r c s no_read no_write no_last = absurd r.1
 halted rest0 rest sent0 sent input ls text closing (Handling handling.Malformed) (Ok done) told few r c s no_read no_write no_last =

@@ -8,22 +8,22 @@ use Rattle.schedule_forms.specs.Schedules.{AreHandled, PassesLimit, IsUnfit, Sto
 use Rattle.schedule_forms.proofs.Fitting.{handled_front, short_last}
 
 -- with the next line these aren't handled any more, or there is no line at all
-Breaks : List (List ℕ) → List (List ℕ) → Type 0
+pub Breaks : List (List ℕ) → List (List ℕ) → Type 0
 Breaks ls [] = ls ≡ []
 Breaks ls (l ∷ after) = AreHandled (ls ++ l ∷ []) → ⊥
 
-unfit_breaks : (ls more : List (List ℕ)) → IsUnfit ls more → Breaks ls more
+pub unfit_breaks : (ls more : List (List ℕ)) → IsUnfit ls more → Breaks ls more
 unfolding Breaks
 unfit_breaks ls [] none = none
 unfit_breaks ls (l ∷ after) unfit = λ h. unfit.2 h.fit
 
-limit_breaks : (ls more : List (List ℕ)) → PassesLimit ls more → Breaks ls more
+pub limit_breaks : (ls more : List (List ℕ)) → PassesLimit ls more → Breaks ls more
 unfolding Breaks
 limit_breaks ls [] none = absurd none
 limit_breaks ls (l ∷ after) (inl long) = λ h. omega (arith, long, short_last ls l h.short)
 limit_breaks ls (l ∷ after) (inr many) = λ h. omega (arith, many, h.few, length-append ls (l ∷ []))
 
-limit_or_unfit : (ls more : List (List ℕ)) → PassesLimit ls more → IsUnfit ls more → ⊥
+pub limit_or_unfit : (ls more : List (List ℕ)) → PassesLimit ls more → IsUnfit ls more → ⊥
 limit_or_unfit ls [] none unfit = none
 limit_or_unfit ls (l ∷ after) (inl long) unfit = omega (arith, long, unfit.0)
 limit_or_unfit ls (l ∷ after) (inr many) unfit = omega (arith, many, unfit.1)
@@ -58,7 +58,7 @@ at_break ls gs t u on h breaks =
     let none = no_further ls on.more u (subst AreHandled on.whole h) (subst (Breaks ls) on.left breaks) in
     (on.whole ∙ ap (λ (z : List (List ℕ)). ls ++ z) none ∙ append-nil ls, on.left ∙ ap (λ (z : List (List ℕ)). z ++ u) none)
 
-one_place : (ls gs t u : List (List ℕ)) → ls ++ t ≡ gs ++ u → AreHandled ls → AreHandled gs → Breaks ls t → Breaks gs u → (gs ≡ ls) × (u ≡ t)
+pub one_place : (ls gs t u : List (List ℕ)) → ls ++ t ≡ gs ++ u → AreHandled ls → AreHandled gs → Breaks ls t → Breaks gs u → (gs ≡ ls) × (u ≡ t)
 one_place ls gs t u same handled others breaks ends =
     elim (meets ls gs t u same) [
       | inl on ↦ let (g, v) = at_break ls gs t u on others breaks in (g, sym v)
@@ -90,7 +90,7 @@ unfolding Outcome
 with_seven status gs u sent0 sent is limit text = inr (inr (is, limit, text))
 
 -- lines that are all handled don't break
-whole_goes_on : (ls t : List (List ℕ)) → ls ++ t ≢ [] → AreHandled (ls ++ t) → Breaks ls t → ⊥
+pub whole_goes_on : (ls t : List (List ℕ)) → ls ++ t ≢ [] → AreHandled (ls ++ t) → Breaks ls t → ⊥
 unfolding Breaks
 whole_goes_on ls [] some h breaks = some (append-nil ls ∙ breaks)
 whole_goes_on ls (l ∷ after) some h breaks =

@@ -3,3 +3,4 @@ mod Losses
 mod Keeping
 mod Walking
 mod Fitting
+mod Ending

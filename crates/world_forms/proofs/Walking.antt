@@ -28,30 +28,13 @@ use Rattle.world_card.specs.Benches.{HoldsWorld}
 use Rattle.world_card.specs.Boots.{IsWokenFor}
 use Rattle.world_card.specs.Counts.{Counted, KeepsPast, answered_fate, short_fate}
 use Rattle.world_card.specs.Starts.{IsUnstarted}
-use Rattle.world_card.proofs.Counting.{same_past}
 use Rattle.world_forms.specs.Courses.{HasRun, start_of, turns_of, trace}
-use Rattle.world_forms.specs.Handling.{BeginsBy, GoesOn, HasBegun, HasTurned, HasTurnedShort, Spells, of_halt}
+use Rattle.world_forms.specs.Handling.{BeginsBy, GoesOn, HasBegun, HasTurned, HasTurnedShort, of_halt}
 use Rattle.world_forms.specs.Keeping.{IsKept}
 use Rattle.world_forms.specs.Replays.{IsReplayed, IsTurnedBehind, IsUnbegun, IsUnsentBehind, IsUntoldBehind, Stops, no_change}
 use Rattle.world_forms.specs.Walks.{IsAt}
 use Rattle.world_forms.proofs.Courses.{has_first, has_more, trace_first}
 use Rattle.world_forms.proofs.Keeping.{kept_after, kept_first, kept_short, kept_turn}
-
--- nothing was counted
-idle_counted : (far : Bool) (s : Seen) → Counted (short_fate far) s s
-idle_counted far s = record {
-  told = refl;
-  faults = omega arith;
-  cuts = omega arith;
-  breaks = omega arith;
-  uses = omega arith;
-  most = omega arith;
-  plans = refl;
-  lost = λ is. absurd (false≢true is);
-  answers = refl;
-  now = λ is. absurd (false≢true is);
-  past = same_past s.marks;
-}
 
 -- what a bench holds is the same after the modems were told
 attended_holds : (first : ℕ) (t : Seen) (w : SmallWorld) → HoldsWorld first t w → HoldsWorld first t (attended w)
@@ -107,14 +90,6 @@ halted first l f w v s t ms said said' before out halt.Limit spelled g = record 
 halted first l f w v s t ms said said' before out halt.Foreign spelled g = g
 halted first l f w v s t ms said said' before out halt.NoMemory spelled (inl before_step) = inl before_step
 halted first l f w v s t ms said said' before out halt.NoMemory spelled (inr short) = inr (acted_short first l f w s t spelled short)
-
--- a line isn't read
-pub unread : (first : ℕ) (f : List ℕ) (w : SmallWorld) (v : World) (s : Seen) (ms : List ModemSeen) (before out : List ℕ) (stop : LineStop) → Spells (step_at f) (Err stop) → StandsWith first v s ms w → GoesOn first f w (Err stop) v s s ms before out
-unread first f w v s ms before out ChipFault spells stands = absurd spells
-unread first f w v s ms before out Malformed spells stands = tt
-unread first f w v s ms before out Limit spells stands = absurd spells
-unread first f w v s ms before out Unrecognised spells stands = absurd spells
-unread first f w v s ms before out NoMemory spells stands = inl (record { holds = stands.world.card.bench; counts = idle_counted (is_far w.plan) s })
 
 -- what was appended is one text
 one_text : (before out text text' : List ℕ) → out ≡ before ++ text → out ≡ before ++ text' → text' ≡ text

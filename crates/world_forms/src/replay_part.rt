@@ -1,7 +1,7 @@
 //! What replays the lines of a schedule.
 
-ghost use Rattle.std.specs.Prelude.{◌≡◌, ◌++◌, ◌∷◌, [], ℕ, List, map, Some, None, Ok, Err, IfOk, OnOk};
-ghost use Rattle.std.specs.Prelude.{OnErr};
+ghost use Rattle.std.specs.Prelude.{◌≡◌, ◌++◌, ◌∷◌, [], ℕ, List, map, Some, None};
+ghost use Rattle.std.specs.Prelude.{Ok, Err, IfOk, OnOk, OnErr};
 ghost use Rattle.card_store.specs.Looking.{HasCauseOf};
 ghost use Rattle.chip_port.specs.Rules.{IfTold};
 ghost use Rattle.euicc_core.specs.Steps.{IsLitOn};
@@ -124,10 +124,7 @@ fn begin<B: Bench, T, F: Fn(&mut T, &Option<Iccid>) + Copy>(
         (B.sees bench.new) (map view modems.new.items) out.old out.new) }
     ensures refused { OnErr result (modems.new.items ≡ modems.old.items) }
 {
-    let device = match device_of(alloc, text) {
-        Ok(device) => device,
-        Err(stop) => return Err(stop),
-    };
+    let device = device_of(alloc, text)?;
     if put_first(out, device.profiles.len()).is_err() {
         return Err(LineStop::NoMemory);
     }
@@ -168,10 +165,7 @@ fn go_on<
     ensures unread { result ≡ Err LineStop.Malformed
         → (bench.new ≡ bench.old) × (modems.new.items ≡ modems.old.items) }
 {
-    let line = match line_of(alloc, text) {
-        Ok(line) => line,
-        Err(stop) => return Err(stop),
-    };
+    let line = line_of(alloc, text)?;
     let mut said = Row::new(alloc);
     match world.step_with(alloc, line, bench, modems, tell, put, &mut said) {
         Ok(()) => match put_ended(out, said.as_slice()) {

@@ -1,4 +1,4 @@
-use Rattle.std.proofs.Common.{◌≡◌, ◌∙◌, ◌+◌, map, Option, None, Result, Err, ap, sym, subst}
+use Rattle.std.proofs.Common.{◌≡◌, ◌∙◌, ◌+◌, map, Option, None, Result, Err, ap, sym, subst, List}
 use Rattle.chip_port.specs.Rules.{IfTold}
 use Rattle.iot_schedule.specs.Devices.{device_at}
 use Rattle.iot_schedule.specs.Steps.{step_at}
@@ -44,7 +44,7 @@ returns-in-Some-clause-handles g c =
             led_on (map view first.modems.items) (sees first.bench) at now v next ms ms' ls b line before out text grows
             (subst (λ (o : Option World). IsAt o (map view first.modems.items) (sees first.bench) at ms ls b) c.in-Some.is (led view tells puts told))
             (λ w stands. subst (λ (r : Result (Unit {0}) LineStop). GoesOn ((sees first.bench).marks.answers + 1) line w r next at now ms' before out) is
-            (c.go_on.ensures.goes_on ((sees first.bench).marks.answers + 1) w view (subst (λ x. TellsOne g.F.Fn x view) (sym own.0) tells) (subst (λ x. PutsOne g.G.Fn x view) (sym own.1) puts) stands)),
+            (c.go_on.ensures.goes_on ((sees first.bench).marks.answers + 1) w view (subst (λ x. TellsOne g.F.Fn x view) (sym {A = g.row.F.Denot} own.0) tells) (subst (λ x. PutsOne g.G.Fn x view) (sym {A = g.row.G.Denot} own.1) puts) stands)),
       ),
     ))
     (λ stop is first ls b was fresh.
@@ -61,12 +61,12 @@ returns-in-Some-clause-handles g c =
           let was_at = subst (λ (o : Option World). IsAt o handed_in (sees first.bench) at ms ls b) c.in-Some.is (led view tells puts told) in
           stopped_on handed_in (sees first.bench) at now v next ms ms' ls b line before out stop was_at
           (λ w stands. subst (λ (r : Result (Unit {0}) LineStop). GoesOn ((sees first.bench).marks.answers + 1) line w r next at now ms' before out) is
-          (c.go_on.ensures.goes_on ((sees first.bench).marks.answers + 1) w view (subst (λ x. TellsOne g.F.Fn x view) (sym own.0) tells) (subst (λ x. PutsOne g.G.Fn x view) (sym own.1) puts) stands))
+          (c.go_on.ensures.goes_on ((sees first.bench).marks.answers + 1) w view (subst (λ x. TellsOne g.F.Fn x view) (sym {A = g.row.F.Denot} own.0) tells) (subst (λ x. PutsOne g.G.Fn x view) (sym {A = g.row.G.Denot} own.1) puts) stands))
           (spells_none (Unit {0}) (step_at line) stop reads)
           (λ bad.
           let kept = c.go_on.ensures.unread (is ∙ ap (λ (z : LineStop). Err z) bad) in
-          subst (λ x. IsReplayed handed_in (sees first.bench) now (map view x) ls b) (sym kept.1)
-          (subst (λ x. IsReplayed handed_in (sees first.bench) (sees x) ms ls b) (sym kept.0) was_at.0)),
+          subst (λ x. IsReplayed handed_in (sees first.bench) now (map view x) ls b) (sym {A = List g.row.T.Denot} kept.1)
+          (subst (λ x. IsReplayed handed_in (sees first.bench) (sees x) ms ls b) (sym {A = g.row.B.Denot} kept.0) was_at.0)),
     ))
 
 pub returns-in-Ok-clause-handles : goal.returns-in-Ok-clause-handles
@@ -90,7 +90,7 @@ returns-in-Ok-clause-handles g c =
                   let ms = map view c.args.modems.now.items in
                   let unbegun = subst (λ (o : Option World). IsAt o (map view first.modems.items) (sees first.bench) at ms ls b) c.in-None.is (led view tells puts told) in
                   led_first (map view first.modems.items) (sees first.bench) at now c.in-Ok.world ms (map view c.begin.new.modems.items) ls b line c.args.out.now c.begin.new.out begin.grows.0 begin.grows.1 unbegun
-                  (begin.begins view (subst (λ x. TellsOne g.F.Fn x view) (sym own.0) tells) (unbegun.bench.told ∙ told)),
+                  (begin.begins view (subst (λ x. TellsOne g.F.Fn x view) (sym {A = g.row.F.Denot} own.0) tells) (unbegun.bench.told ∙ told)),
             ),
           );
     }
@@ -111,6 +111,6 @@ returns-in-Err-clause-handles g c = λ first ls b was fresh.
           let ms = map view c.args.modems.now.items in
           let unbegun = subst (λ (o : Option World). IsAt o (map view first.modems.items) (sees first.bench) at ms ls b) c.in-None.is (led view tells puts told) in
           stopped_first (map view first.modems.items) (sees first.bench) at now ms (map view c.begin.new.modems.items) ls b line c.args.out.now c.begin.new.out stop unbegun
-          (begin.begins view (subst (λ x. TellsOne g.F.Fn x view) (sym own.0) tells) (unbegun.bench.told ∙ told))
+          (begin.begins view (subst (λ x. TellsOne g.F.Fn x view) (sym {A = g.row.F.Denot} own.0) tells) (unbegun.bench.told ∙ told))
           (spells_none World (device_at line) stop begin.reads) (ap (λ xs. map view xs) begin.refused),
     )
