@@ -18,6 +18,7 @@ use Rattle.schedule_forms.specs.Schedules as schedules
 use Rattle.schedule_forms.specs.Pieces.{HasGenerated}
 use Rattle.modem_bank.specs.Modems.{Seen as ModemSeen}
 use Rattle.world_forms.specs.Replays.{Replayed}
+use Rattle.world_forms.specs.Ends as replay
 use Rattle.iot_program.specs.declared.words.Form.{Form}
 use Rattle.iot_program.specs.declared.words.Form.TheVariants as form
 
@@ -35,6 +36,16 @@ pub record DecidesBy (input : List ℕ) (status : ℕ) (old new : Edge) : Type 0
   pub complete : lines_of input ≢ [] → schedules.AreHandled (lines_of input) → ¬ Rose old.read_faults new.read_faults → ¬ Rose old.write_faults new.write_faults → (status ≡ 0) ⊎ (status ≡ 6)
   -- where the lines stop being such ones, the status and the stop line say so
   pub stops : (ls more : List (List ℕ)) → lines_of input ≡ ls ++ more → schedules.AreHandled ls → ¬ Rose old.read_faults new.read_faults → ¬ Rose old.write_faults new.write_faults → schedules.StopsWith ls more status old.sent new.sent
+
+-- `replay`: what the lines of a whole input decide, over a bench that tells its content.
+pub record ReplaysBy (handed_in : List ModemSeen) (input : List ℕ) (status : ℕ) (old new : Edge) (s t : Seen) (modems : List ModemSeen) : Type 0 where
+  -- with status 0 they are a schedule within the limits, and the trace of their run was sent
+  pub done : status ≡ 0 → replay.IsDone handed_in input new.rest old.sent new.sent
+  -- and such lines have no other status where no call on source or sink fails, unless memory is wanting, a message passes
+  -- the limit, or a call fails while the card is personalised
+  pub complete : lines_of input ≢ [] → schedules.AreHandled (lines_of input) → ¬ Rose old.read_faults new.read_faults → ¬ Rose old.write_faults new.write_faults → replay.EndsWell handed_in s t modems (lines_of input) status
+  -- where the lines stop being such ones, the status and the stop line say so, with the same exceptions
+  pub stops : (ls more : List (List ℕ)) → lines_of input ≡ ls ++ more → schedules.AreHandled ls → ¬ Rose old.read_faults new.read_faults → ¬ Rose old.write_faults new.write_faults → replay.StopsWith handed_in s t modems ls more status old.sent new.sent
 
 -- what a run does, by the form of its words; the modems are those that were lent, before and after
 abbrev pub Does : Option Form → ℕ → Edge → Edge → Seen → Seen → List ModemSeen → List ModemSeen → Type 0

@@ -1,14 +1,14 @@
 //! The top call.
 
 ghost use Rattle.std.specs.Prelude.{◌≡◌, ◌≢◌, ◌↔◌, ◌⊎◌, ◌++◌, ℕ, List, map, string_bytes, Some};
-ghost use Rattle.std.specs.Prelude.{None, OnErr, OnOk, length, take};
+ghost use Rattle.std.specs.Prelude.{None, OnErr, OnOk, length, take, true};
 ghost use Rattle.modem_bank.specs.Modems.{seen, told_one};
 ghost use Rattle.small_world.specs.Texts.{modem_entry};
 ghost use Rattle.iot_bytes.specs.Causes.{Rose};
 ghost use Rattle.run_loop.specs.Edges.{edge, HasCauses};
 ghost use Rattle.run_loop.specs.Frames.{framed};
 ghost use Rattle.iot_program.specs.Words.{form_of, IsForm};
-ghost use Rattle.iot_program.specs.Ends.{DecidesBy, Does, HandledBy, StopsBy};
+ghost use Rattle.iot_program.specs.Ends.{DecidesBy, Does, HandledBy, ReplaysBy, StopsBy};
 ghost use Rattle.lone_card.specs.Runs.{HasFaults};
 ghost use Rattle.iot_program.specs.declared.words.Form.{Form};
 
@@ -71,6 +71,13 @@ fn run_form<S: Source, K: Sink, B: Bench>(
         → DecidesBy input result
         (edge (S.rest source.old) (S.faults source.old) (K.sent sink.old) (K.faults sink.old))
         (edge (S.rest source.new) (S.faults source.new) (K.sent sink.new) (K.faults sink.new)) }
+    ensures replays { (input : List ℕ) → form ≡ Form.Replay → (B.sees bench.old).told ≡ true
+        → S.rest source.old ≡ Some input
+        → ReplaysBy (seen shown_iccid refresh_count modems.old.items) input result
+        (edge (S.rest source.old) (S.faults source.old) (K.sent sink.old) (K.faults sink.old))
+        (edge (S.rest source.new) (S.faults source.new) (K.sent sink.new) (K.faults sink.new))
+        (B.sees bench.old) (B.sees bench.new)
+        (seen shown_iccid refresh_count modems.new.items) }
     ensures unread { (start lines : ℕ) → form ≡ Form.Gen start lines → source.new ≡ source.old }
 {
     match form {
@@ -161,6 +168,14 @@ pub fn run<S: Source, K: Sink, B: Bench>(
         → S.rest source.old ≡ Some input → DecidesBy input result
         (edge (S.rest source.old) (S.faults source.old) (K.sent sink.old) (K.faults sink.old))
         (edge (S.rest source.new) (S.faults source.new) (K.sent sink.new) (K.faults sink.new)) }
+    // Of `replay` they do, over a bench that tells its content.
+    ensures replays { (input : List ℕ) → form_of (map string_bytes words.now) ≡ Some Form.Replay
+        → (B.sees bench.old).told ≡ true → S.rest source.old ≡ Some input
+        → ReplaysBy (seen shown_iccid refresh_count modems.old.items) input result
+        (edge (S.rest source.old) (S.faults source.old) (K.sent sink.old) (K.faults sink.old))
+        (edge (S.rest source.new) (S.faults source.new) (K.sent sink.new) (K.faults sink.new))
+        (B.sees bench.old) (B.sees bench.new)
+        (seen shown_iccid refresh_count modems.new.items) }
     // `gen` reads nothing.
     ensures unread { (start lines : ℕ)
         → form_of (map string_bytes words.now) ≡ Some (Form.Gen start lines)

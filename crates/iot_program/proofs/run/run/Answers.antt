@@ -37,3 +37,6 @@ returns-in-Some-clause-untouched_modems g c = λ other.
 
 pub returns-in-Some-clause-broke : goal.returns-in-Some-clause-broke
 returns-in-Some-clause-broke g c = λ words. c.run_form.ensures.broke (some_is _ _ (sym (sym words ∙ sym c.form_of_words.ensures.form ∙ c.in-Some.is)))
+
+pub returns-in-Some-clause-replays : goal.returns-in-Some-clause-replays
+returns-in-Some-clause-replays g c = λ input words. c.run_form.ensures.replays input (some_is _ _ (sym (sym words ∙ sym c.form_of_words.ensures.form ∙ c.in-Some.is)))

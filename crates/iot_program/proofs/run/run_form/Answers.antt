@@ -96,3 +96,10 @@ returns-in-Replay-clause-complete g c = λ input fs told is handled no_read no_w
 
 pub returns-in-Replay-clause-stops : goal.returns-in-Replay-clause-stops
 returns-in-Replay-clause-stops g c = λ input fs tail told is handled no_read no_write calm. absurd (subst (λ (f : Form). HandledBy f (g.B.Chip.sees c.args.bench.now) fs) c.in-Replay.is handled)
+
+pub returns-in-Replay-clause-replays : goal.returns-in-Replay-clause-replays
+returns-in-Replay-clause-replays g c = λ input form content told. record {
+  done = c.run_replay.ensures.done (λ b. ((goal.Modem-dyn g (b.vtable, b.value)).shown_iccid b.value, (goal.Modem-dyn g (b.vtable, b.value)).refresh_count b.value)) input (λ modem now left post. search rules) (λ out modem result left post. search rules) content told;
+  complete = c.run_replay.ensures.complete (λ b. ((goal.Modem-dyn g (b.vtable, b.value)).shown_iccid b.value, (goal.Modem-dyn g (b.vtable, b.value)).refresh_count b.value)) input (λ modem now left post. search rules) (λ out modem result left post. search rules) content told;
+  stops = λ ls more. c.run_replay.ensures.stops (λ b. ((goal.Modem-dyn g (b.vtable, b.value)).shown_iccid b.value, (goal.Modem-dyn g (b.vtable, b.value)).refresh_count b.value)) input ls more (λ modem now left post. search rules) (λ out modem result left post. search rules) content told;
+}
