@@ -30,25 +30,42 @@ fn are_same(alloc: Global, one: &EuiccCard, other: &EuiccCard) -> Result<bool, F
     Ok(same_fields && one.store.rows() == other.store.rows())
 }
 
-// Cuts a step at a call, and powers the card up: whether the step was answered, and the card.
-fn cut<B: Bench>(
+// Cuts a unit behind these at a call of its step, and powers the card up: whether the step was
+// answered, and whether the card is the wanted one.
+fn cut(
     alloc: Global,
-    bench: &mut B,
+    before: &[Kind],
     kind: Kind,
     calls: u32,
     tear: Tear,
-) -> Result<(bool, EuiccCard), Fail> {
+    wanted: &EuiccCard,
+) -> Result<(bool, bool), Fail> {
+    let mut chip = chip_after(alloc, before)?;
     let all = OPENING.saturating_add(calls);
-    bench.plan_cut(all, tear).map_err(|_| "memory")?;
-    let mut card = powered_up(alloc, bench)?;
-    let answered = unit(alloc, &mut card, bench, kind)?;
-    bench.drop_plan();
-    bench.power_on().map_err(|_| "power")?;
-    Ok((answered, powered_up(alloc, bench)?))
+    chip.plan_cut(all, tear).map_err(|_| "memory")?;
+    let mut card = powered_up(alloc, &mut chip)?;
+    let answered = unit(alloc, &mut card, &mut chip, kind)?;
+    chip.drop_plan();
+    chip.power_on().map_err(|_| "power")?;
+    let woken = powered_up(alloc, &mut chip)?;
+    Ok((answered, are_same(alloc, &woken, wanted)?))
 }
 
 /// The units before a rollback or a removal.
 const LOADED: [Kind; 2] = [Kind::Initial, Kind::Load];
+
+// The card after these units.
+fn card_after(alloc: Global, units: &[Kind]) -> Result<EuiccCard, Fail> {
+    let mut chip = chip_after(alloc, units)?;
+    powered_up(alloc, &mut chip)
+}
+
+// The card behind these units and this one.
+fn card_behind(alloc: Global, before: &[Kind], kind: Kind) -> Result<EuiccCard, Fail> {
+    let mut chip = chip_after(alloc, before)?;
+    carry_out(alloc, &mut chip, kind)?;
+    powered_up(alloc, &mut chip)
+}
 
 // Cuts a unit that changes so many blocks at each call of its step with each tear. The calls are
 // those of staging, 3 for each block and 7 more of the commit, and the answer.
@@ -59,28 +76,25 @@ fn check(
     kind: Kind,
     blocks: u8,
 ) -> Result<(), Fail> {
-    let mut chip = chip_after(alloc, before)?;
-    let old = powered_up(alloc, &mut chip)?;
-    carry_out(alloc, &mut chip, kind)?;
-    let new = powered_up(alloc, &mut chip)?;
-    chip = chip_after(alloc, before)?;
+    let old = card_after(alloc, before)?;
+    let new = card_behind(alloc, before, kind)?;
+    assert!(rt; !are_same(alloc, &old, &new)?);
     let count = STAGE + 3 * u32::from(blocks) + 8;
-    for step in 0..4 * (count + 1) {
-        let calls = step / 4;
-        let (tear, last) = TEARS[(step % 4) as usize];
-        let (answered, card) = cut(alloc, &mut chip, kind, calls, tear)?;
-        let is_new = calls.saturating_add(last) >= count;
-        let wanted = if is_new { &new } else { &old };
-        assert!(rt;
-            are_same(alloc, &card, wanted)?,
-            "{kind:?} at {calls}, {tear:?}"
-        );
-        assert_eq!(rt; answered, calls == count, "{kind:?} at {calls}, {tear:?}");
-        if is_new {
-            chip = chip_after(alloc, before)?;
+    for (tear, last) in TEARS {
+        for calls in 0..=count {
+            let is_new = calls.saturating_add(last) >= count;
+            let ended = if is_new {
+                cut(alloc, before, kind, calls, tear, &new)?
+            } else {
+                cut(alloc, before, kind, calls, tear, &old)?
+            };
+            assert_eq!(rt;
+                ended,
+                (calls == count, true),
+                "{kind:?} at {calls}, {tear:?}"
+            );
         }
     }
-    assert!(rt; !are_same(alloc, &old, &new)?);
     Ok(())
 }
 
