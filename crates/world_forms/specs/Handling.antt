@@ -28,7 +28,7 @@ use Rattle.card_store.specs.declared.ends.MakeError.{MakeError}
 use Rattle.card_store.specs.declared.ends.MakeError.TheVariants as make
 use Rattle.world_forms.specs.Replays.{IsUnmade, no_change}
 
--- Why a text isn't read, a card isn't made, and a step halts.
+-- Why a card isn't made, and why a step halts.
 abbrev pub of_make : MakeError → LineStop
 of_make make.Failed = ChipFault
 of_make make.NoMemory = NoMemory
