@@ -5,3 +5,4 @@ pub mod Replays
 pub mod Handling
 pub mod Walks
 pub mod Starting
+pub mod Demos
