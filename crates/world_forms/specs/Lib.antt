@@ -6,3 +6,4 @@ pub mod Handling
 pub mod Walks
 pub mod Starting
 pub mod Demos
+pub mod Plays
