@@ -3,3 +3,5 @@ mod Losses
 mod Keeping
 mod Walking
 mod Fitting
+mod Tallies
+mod Plays

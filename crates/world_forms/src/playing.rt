@@ -1,9 +1,8 @@
 //! Replaying the lines of a generated schedule, of which counts are kept and not the trace.
 
-ghost use Rattle.std.specs.Prelude.{◌≡◌, ◌≢◌, ◌+◌, ◌^◌, ◌<◌, ◌≤◌, ℕ, map, IfErr, IfOk, OnOk, Err};
+ghost use Rattle.std.specs.Prelude.{◌≡◌, ◌≢◌, ◌+◌, ◌^◌, ◌<◌, ◌≤◌, ℕ, map, IfErr, IfOk, OnErr, OnOk, Err, List};
 ghost use Rattle.card_store.specs.Looking.{HasCauseOf};
 ghost use Rattle.chip_port.specs.Rules.{IfTold};
-ghost use Rattle.chip_port.specs.Seen.{Seen as BenchSeen};
 ghost use Rattle.euicc_core.specs.Steps.{IsLitOn};
 ghost use Rattle.iot_bytes.specs.Causes.{Rose};
 ghost use Rattle.iot_schedule.specs.Making.{state_before};
@@ -43,8 +42,9 @@ struct Play {
 
 // Makes the line of a number.
 fn make_line(alloc: Global, maker: &mut Maker, number: u32) -> Result<Row<u8>, LineStop>
-    ensures { (start : ℕ) → maker.old.state ≡ state_before start number
+    ensures makes { (start : ℕ) → maker.old.state ≡ state_before start number
         → Makes start number maker.new.state result }
+    ensures stop { OnErr result (result ≡ Err LineStop.NoMemory) }
 {
     let mut line = Row::new(alloc);
     match maker.next_line(number, &mut line) {
@@ -118,12 +118,12 @@ fn play_line<
     ensures fits { (start : ℕ) → play.old.maker.state ≡ state_before start number → number ≢ 1
         → result ≢ Err LineStop.Malformed }
     ensures plays { (view : T → Seen) → TellsOne F.Fn tell view → PutsOne G.Fn put view
-        → (first : BenchSeen) (start count : ℕ) → number ≡ count + 1
+        → (first : B) (start count : ℕ) → number ≡ count + 1
         → play.old.maker.state ≡ state_before start number
         → (handed_in : List Seen)
-        → HasPlayed play.old handed_in (made_lines start count) count first (B.sees bench.old)
+        → HasPlayed play.old handed_in (made_lines start count) count (B.sees first) (B.sees bench.old)
         (map view modems.old.items)
-        → Plays play.new handed_in start count result first (B.sees bench.new)
+        → Plays play.new handed_in start count result (B.sees first) (B.sees bench.new)
         (map view modems.new.items) }
 {
     let line = match make_line(alloc, &mut play.maker, number) {
