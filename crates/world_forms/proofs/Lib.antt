@@ -5,3 +5,4 @@ mod Walking
 mod Fitting
 mod Tallies
 mod Plays
+mod Ends

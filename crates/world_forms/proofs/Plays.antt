@@ -14,7 +14,7 @@ use Rattle.small_world.specs.Printing.{device_printed, printed}
 use Rattle.small_world.specs.Stretches.{fates}
 use Rattle.small_world.specs.Worlds.{SmallWorld}
 use Rattle.world_forms.specs.Courses.{start_of, turns_of, trace}
-use Rattle.world_forms.specs.Demos.{AreCounts, printed_by}
+use Rattle.world_forms.specs.Demos.{AreCounts, IsShown, IsStoppedAt, printed_by}
 use Rattle.world_forms.specs.Handling.{BeginsBy, GoesOn, HasBegun, HasTurned}
 use Rattle.world_forms.specs.Plays.{CountsOn, HasHalted, HasPlayed, Makes}
 use Rattle.world_forms.specs.Replays.{Stops}
@@ -121,3 +121,10 @@ unmade_on play handed_in ms start count number state s t NoMemory p made =
 -- a line behind played ones isn't the first
 pub behind_first : (play : Play) (handed_in ms : List ModemSeen) (start count number : ℕ) (s t : Seen) → HasPlayed play handed_in (made_lines start count) count s t ms → number ≡ count + 1 → number ≢ 1
 behind_first play handed_in ms start count number s t p is = λ one. absurd (omega (arith, p.many, is, one))
+
+-- the lines stop, or all are played
+pub stopped_at : (handed_in : List ModemSeen) (start count number : ℕ) (stop : LineStop) (s t : Seen) (ms : List ModemSeen) → number ≡ count + 1 → HasHalted handed_in start count stop s t ms → IsStoppedAt handed_in start (record { stop = stop; number = number }) s t ms
+stopped_at handed_in start count number stop s t ms is h = record { count = count; text = h.text; number_is = is; stops = h.stops }
+
+pub shown : (play : Play) (handed_in : List ModemSeen) (start lines : ℕ) (s t : Seen) (ms : List ModemSeen) → HasPlayed play handed_in (made_lines start lines) lines s t ms → IsShown handed_in start lines play.tally s t ms
+shown play handed_in start lines s t ms p = record { text = p.text; replayed = p.replayed; counts = p.counts }
