@@ -4,3 +4,6 @@ mod Keeping
 mod Walking
 mod Fitting
 mod Ending
+mod Tallies
+mod Plays
+mod Ends

@@ -6,3 +6,5 @@ pub mod Handling
 pub mod Walks
 pub mod Starting
 pub mod Ends
+pub mod Demos
+pub mod Plays

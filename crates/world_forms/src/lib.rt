@@ -2,9 +2,13 @@
 //! around it, and modems.
 #![tactic(auto)]
 
+mod demo;
+mod playing;
 mod replay_part;
 mod replaying;
+mod tally;
 
+pub use demo::run_demo;
 pub use replaying::run_replay;
 
 #[cfg(test)]

@@ -105,7 +105,7 @@ fn put_ended(out: &mut Row<u8>, text: &[u8]) -> Result<(), NoMemory>
 
 // The first line: the device's card is made. Its text is put before, so that nothing is made where
 // there is no memory for it.
-fn begin<B: Bench, T, F: Fn(&mut T, &Option<Iccid>) + Copy>(
+pub(crate) fn begin<B: Bench, T, F: Fn(&mut T, &Option<Iccid>) + Copy>(
     alloc: Global,
     text: &[u8],
     bench: &mut B,
@@ -135,7 +135,7 @@ fn begin<B: Bench, T, F: Fn(&mut T, &Option<Iccid>) + Copy>(
 }
 
 // A further line: the world takes a step.
-fn go_on<
+pub(crate) fn go_on<
     B: Bench,
     T: Drop,
     F: Fn(&mut T, &Option<Iccid>) + Copy,
