@@ -17,6 +17,7 @@ use Rattle.schedule_forms.specs.Schedules.{Checked}
 use Rattle.schedule_forms.specs.Schedules as schedules
 use Rattle.schedule_forms.specs.Pieces.{HasGenerated}
 use Rattle.modem_bank.specs.Modems.{Seen as ModemSeen}
+use Rattle.world_forms.specs.Demos.{Demonstrated}
 use Rattle.world_forms.specs.Replays.{Replayed}
 use Rattle.world_forms.specs.Ends as replay
 use Rattle.iot_program.specs.declared.words.Form.{Form}
@@ -25,6 +26,12 @@ use Rattle.iot_program.specs.declared.words.Form.TheVariants as form
 -- `gen`: the schedule of a start was sent as the status says, and nothing was read.
 pub record Generates (start lines status : ℕ) (old new : Edge) : Type 0 where
   pub generated : HasGenerated start lines status old.sent new.sent
+  pub unread : new.rest ≡ old.rest
+  pub no_faults : new.read_faults ≡ old.read_faults
+
+-- `demo`: the schedule of a start was replayed and counted, and nothing was read.
+pub record Demonstrates (start lines status : ℕ) (old new : Edge) (s t : Seen) (handed_in modems : List ModemSeen) : Type 0 where
+  pub demonstrated : Demonstrated handed_in start lines status old.sent new.sent s t modems
   pub unread : new.rest ≡ old.rest
   pub no_faults : new.read_faults ≡ old.read_faults
 
@@ -56,6 +63,29 @@ Does (Some (form.Ipa eid)) status old new s t handed_in modems = Ran (ipa_rule e
 Does (Some form.Check) status old new s t handed_in modems = Checked status old new
 Does (Some (form.Gen start lines)) status old new s t handed_in modems = Generates start lines status old new
 Does (Some form.Replay) status old new s t handed_in modems = Replayed handed_in status old new s t modems
+Does (Some (form.Demo start lines)) status old new s t handed_in modems = Demonstrates start lines status old new s t handed_in modems
+
+-- the forms that step a world, over the bench and the modems
+abbrev pub StepsWorld : Option Form → Type 0
+StepsWorld None = ⊥
+StepsWorld (Some form.Card) = ⊥
+StepsWorld (Some (form.Eim id eid)) = ⊥
+StepsWorld (Some (form.Ipa eid)) = ⊥
+StepsWorld (Some form.Check) = ⊥
+StepsWorld (Some (form.Gen start lines)) = ⊥
+StepsWorld (Some form.Replay) = Unit {0}
+StepsWorld (Some (form.Demo start lines)) = Unit {0}
+
+-- the forms that read nothing
+abbrev pub ReadsNothing : Option Form → Type 0
+ReadsNothing None = Unit {0}
+ReadsNothing (Some form.Card) = ⊥
+ReadsNothing (Some (form.Eim id eid)) = ⊥
+ReadsNothing (Some (form.Ipa eid)) = ⊥
+ReadsNothing (Some form.Check) = ⊥
+ReadsNothing (Some (form.Gen start lines)) = Unit {0}
+ReadsNothing (Some form.Replay) = ⊥
+ReadsNothing (Some (form.Demo start lines)) = Unit {0}
 
 -- these frames are within the limits and, by the form, there is a card to answer them, or each is in the
 -- part's grammar; the forms that read lines or nothing handle no frames
@@ -66,6 +96,7 @@ HandledBy (form.Ipa eid) s fs = parts.AreHandled (ipa_rule eid) [] fs
 HandledBy form.Check s fs = ⊥
 HandledBy (form.Gen start lines) s fs = ⊥
 HandledBy form.Replay s fs = ⊥
+HandledBy (form.Demo start lines) s fs = ⊥
 
 -- the status where an input stops behind these frames, and neither a call failed nor memory was wanting but for 6
 abbrev pub StopsBy : Form → Seen → List (List ℕ) → List ℕ → ℕ → Type 0
@@ -75,3 +106,4 @@ StopsBy (form.Ipa eid) s fs tail status = parts.StopsWith (ipa_rule eid) [] fs t
 StopsBy form.Check s fs tail status = ⊥
 StopsBy (form.Gen start lines) s fs tail status = ⊥
 StopsBy form.Replay s fs tail status = ⊥
+StopsBy (form.Demo start lines) s fs tail status = ⊥

@@ -7,7 +7,7 @@ use Rattle.sgp_values.specs.Reading.{eid_of, eim_id_of}
 use Rattle.small_card.specs.Lists.{same}
 use Rattle.iot_schedule.specs.Tokens.{number_of}
 use Rattle.iot_program.specs.declared.words.Form.{Form}
-use Rattle.iot_program.specs.declared.words.Form.TheVariants.{Card, Eim, Ipa, Check, Gen, Replay}
+use Rattle.iot_program.specs.declared.words.Form.TheVariants.{Card, Eim, Ipa, Check, Gen, Replay, Demo}
 
 abbrev pub octets_of : Result (List ℕ) FromHexError → Option (List ℕ)
 octets_of (Ok octets) = Some octets
@@ -33,26 +33,41 @@ eim_form id eid = do
   Some (Eim eim card)
 
 -- a start below 2^31, and 1 to 100,000 lines, as decimals without needless zeros
-abbrev pub gen_form : List ℕ → List ℕ → Option Form
-gen_form first count = do
+abbrev pub generated_of : List ℕ → List ℕ → Option (ℕ × ℕ)
+generated_of first count = do
   start ← number_of 0 2147483647 first
   lines ← number_of 1 100000 count
-  Some (Gen start lines)
+  Some (start, lines)
+
+abbrev pub gen_form : List ℕ → List ℕ → Option Form
+gen_form first count = do
+  numbers ← generated_of first count
+  Some (Gen numbers.0 numbers.1)
+
+abbrev pub demo_form : List ℕ → List ℕ → Option Form
+demo_form first count = do
+  numbers ← generated_of first count
+  Some (Demo numbers.0 numbers.1)
 
 -- the form of three words
 abbrev pub form_of_three : List ℕ → List ℕ → List ℕ → Option Form
 form_of_three word second third =
     if same word (codes "eim") then eim_form second third
     else if same word (codes "gen") then gen_form second third
+    else if same word (codes "demo") then demo_form second third
     else None
 
--- the start of a generator is below 2^31
+-- the numbers of a generated schedule are in their ranges
+abbrev pub AreGenerated : ℕ × ℕ → Type 0
+AreGenerated numbers = (numbers.0 ≤ 2147483647) × ((1 ≤ numbers.1) × (numbers.1 ≤ 100000))
+
 abbrev pub IsForm : Form → Type 0
-IsForm (Gen start lines) = start ≤ 2147483647
+IsForm (Gen start lines) = AreGenerated (start, lines)
+IsForm (Demo start lines) = AreGenerated (start, lines)
 IsForm other = Unit {0}
 
 -- the form that the words have: `card PATH`, where PATH is any text but the empty one, `ipa EID`,
--- `eim ID EID`, `check`, `gen START LINES` or `replay`
+-- `eim ID EID`, `check`, `gen START LINES`, `replay` or `demo START LINES`
 unfoldable pub form_of : List (List ℕ) → Option Form
 form_of (word ∷ []) =
     if same word (codes "check") then Some Check

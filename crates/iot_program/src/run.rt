@@ -8,7 +8,8 @@ ghost use Rattle.iot_bytes.specs.Causes.{Rose};
 ghost use Rattle.run_loop.specs.Edges.{edge, HasCauses};
 ghost use Rattle.run_loop.specs.Frames.{framed};
 ghost use Rattle.iot_program.specs.Words.{form_of, IsForm};
-ghost use Rattle.iot_program.specs.Ends.{DecidesBy, Does, HandledBy, ReplaysBy, StopsBy};
+ghost use Rattle.iot_program.specs.Ends.{DecidesBy, Does, HandledBy, ReadsNothing};
+ghost use Rattle.iot_program.specs.Ends.{ReplaysBy, StepsWorld, StopsBy};
 ghost use Rattle.lone_card.specs.Runs.{HasFaults};
 ghost use Rattle.iot_program.specs.declared.words.Form.{Form};
 
@@ -21,7 +22,7 @@ use modem_bank::{Modem, tell_one};
 use schedule_forms::{run_check, run_gen};
 use sgp_values::Iccid;
 use std::alloc::Global;
-use world_forms::run_replay;
+use world_forms::{run_demo, run_replay};
 use world_text::put_modem;
 
 /// The status of a faulty command line.
@@ -50,10 +51,11 @@ fn run_form<S: Source, K: Sink, B: Bench>(
         (result ≡ 2) (result ≡ 3) }
     ensures faults { form ≡ Form.Card
         → HasFaults (B.sees bench.old) (B.sees bench.new) (result ≡ 4) }
-    ensures broke { form ≡ Form.Replay → result ≡ 4
+    ensures broke { StepsWorld (Some form) → result ≡ 4
         → Rose (B.sees bench.old).faults (B.sees bench.new).faults }
-    ensures untouched_bench { form ≢ Form.Card → form ≢ Form.Replay → bench.new ≡ bench.old }
-    ensures untouched_modems { form ≢ Form.Replay → modems.new ≡ modems.old }
+    ensures untouched_bench { form ≢ Form.Card → ¬ StepsWorld (Some form)
+        → bench.new ≡ bench.old }
+    ensures untouched_modems { ¬ StepsWorld (Some form) → modems.new ≡ modems.old }
     ensures complete { (input : List ℕ) (fs : List (List ℕ))
         → S.rest source.old ≡ Some input → input ≡ framed fs → HandledBy form (B.sees bench.old) fs
         → ¬ Rose (S.faults source.old) (S.faults source.new)
@@ -78,30 +80,27 @@ fn run_form<S: Source, K: Sink, B: Bench>(
         (edge (S.rest source.new) (S.faults source.new) (K.sent sink.new) (K.faults sink.new))
         (B.sees bench.old) (B.sees bench.new)
         (seen shown_iccid refresh_count modems.new.items) }
-    ensures unread { (start lines : ℕ) → form ≡ Form.Gen start lines → source.new ≡ source.old }
+    ensures unread { ReadsNothing (Some form) → source.new ≡ source.old }
 {
+    let tell = |modem: &mut Box<dyn Modem>, now: &Option<Iccid>|
+        ensures seen { (shown_iccid modem.new, refresh_count modem.new)
+            ≡ told_one now.now (shown_iccid modem.old, refresh_count modem.old) }
+    { tell_one(&mut **modem, now) };
+    let put = |out: &mut Row<u8>, modem: &Box<dyn Modem>| -> Result<(), NoMemory>
+        ensures ok { OnOk result (out.new
+            ≡ out.old ++ modem_entry (shown_iccid modem.now, refresh_count modem.now)) }
+        ensures err { OnErr result (take (length out.old) out.new ≡ out.old) }
+    { put_modem(out, &modem.shows(), modem.refreshes()) };
     match form {
         Form::Card => run_card(alloc, source, sink, bench),
         Form::Eim { id, eid } => run_eim(alloc, id, eid, source, sink),
         Form::Ipa { eid } => run_ipa(alloc, eid, source, sink),
         Form::Check => run_check(alloc, source, sink),
         Form::Gen { start, lines } => run_gen(alloc, start, lines, sink),
-        Form::Replay => run_replay(
-            alloc,
-            source,
-            sink,
-            bench,
-            modems,
-            |modem: &mut Box<dyn Modem>, now: &Option<Iccid>|
-                ensures seen { (shown_iccid modem.new, refresh_count modem.new)
-                    ≡ told_one now.now (shown_iccid modem.old, refresh_count modem.old) }
-            { tell_one(&mut **modem, now) },
-            |out: &mut Row<u8>, modem: &Box<dyn Modem>| -> Result<(), NoMemory>
-                ensures ok { OnOk result (out.new
-                    ≡ out.old ++ modem_entry (shown_iccid modem.now, refresh_count modem.now)) }
-                ensures err { OnErr result (take (length out.old) out.new ≡ out.old) }
-            { put_modem(out, &modem.shows(), modem.refreshes()) },
-        ),
+        Form::Replay => run_replay(alloc, source, sink, bench, modems, tell, put),
+        Form::Demo { start, lines } => {
+            run_demo(alloc, start, lines, sink, bench, modems, tell, put)
+        }
     }
 }
 
@@ -131,16 +130,16 @@ pub fn run<S: Source, K: Sink, B: Bench>(
         (edge (S.rest source.old) (S.faults source.old) (K.sent sink.old) (K.faults sink.old))
         (edge (S.rest source.new) (S.faults source.new) (K.sent sink.new) (K.faults sink.new))
         (result ≡ 2) (result ≡ 3) }
-    // With `card` and `replay` status 4 comes only where a call on the bench failed; no other form
-    // makes any.
+    // With `card`, `replay` and `demo` status 4 comes only where a call on the bench failed; no other
+    // form makes any.
     ensures faults { form_of (map string_bytes words.now) ≡ Some Form.Card
         → HasFaults (B.sees bench.old) (B.sees bench.new) (result ≡ 4) }
-    ensures broke { form_of (map string_bytes words.now) ≡ Some Form.Replay → result ≡ 4
+    ensures broke { StepsWorld (form_of (map string_bytes words.now)) → result ≡ 4
         → Rose (B.sees bench.old).faults (B.sees bench.new).faults }
     ensures untouched_bench { form_of (map string_bytes words.now) ≢ Some Form.Card
-        → form_of (map string_bytes words.now) ≢ Some Form.Replay → bench.new ≡ bench.old }
-    // Only `replay` tells the modems anything.
-    ensures untouched_modems { form_of (map string_bytes words.now) ≢ Some Form.Replay
+        → ¬ StepsWorld (form_of (map string_bytes words.now)) → bench.new ≡ bench.old }
+    // Only `replay` and `demo` tell the modems anything.
+    ensures untouched_modems { ¬ StepsWorld (form_of (map string_bytes words.now))
         → modems.new ≡ modems.old }
     // Whole frames within the limits that the form handles are answered to their end where no call
     // on the source, the sink or the bench fails and memory suffices: of `card` the bench stands
@@ -176,9 +175,8 @@ pub fn run<S: Source, K: Sink, B: Bench>(
         (edge (S.rest source.new) (S.faults source.new) (K.sent sink.new) (K.faults sink.new))
         (B.sees bench.old) (B.sees bench.new)
         (seen shown_iccid refresh_count modems.new.items) }
-    // `gen` reads nothing.
-    ensures unread { (start lines : ℕ)
-        → form_of (map string_bytes words.now) ≡ Some (Form.Gen start lines)
+    // `gen` and `demo` read nothing, nor do faulty words.
+    ensures unread { ReadsNothing (form_of (map string_bytes words.now))
         → source.new ≡ source.old }
 {
     match form_of_words(words) {

@@ -430,7 +430,7 @@ fn the_limit_on_frames(rt: HostRuntime) -> Result<(), Fail> {
 }
 
 /// Command lines, with a bar between each two words, and what `status_over_faults` makes of them.
-const COMMAND_LINES: [(&str, u8); 89] = [
+const COMMAND_LINES: [(&str, u8); 93] = [
     ("", 1),
     ("|", 1),
     ("||", 1),
@@ -463,6 +463,10 @@ const COMMAND_LINES: [(&str, u8); 89] = [
     ("replay|", 1),
     ("replay|x", 1),
     ("Replay", 1),
+    ("demo|1|7", 4),
+    ("demo|1|0", 1),
+    ("demo|2147483648|5", 1),
+    ("demo|1", 1),
     ("ipa", 1),
     ("ipa|", 1),
     ("ipa|000102030405060708090a0b0c0d0e0f", 2),
@@ -584,6 +588,7 @@ fn values_of_words(rt: HostRuntime) -> Result<(), Fail> {
             Form::Eim { id, eid },
         ),
         ("gen|2147483647|100000", Form::Gen { start, lines }),
+        ("demo|2147483647|100000", Form::Demo { start, lines }),
     ];
     for (line, form) in cases {
         let words = words_of(alloc, line)?;

@@ -1,6 +1,7 @@
 ghost use Rattle.std.specs.Prelude.{◌≡◌, ◌≤◌, map, string_bytes, IfSome};
 ghost use Rattle.iot_schedule.specs.Tokens.{number_of};
-ghost use Rattle.iot_program.specs.Words.{eid_word, eim_form, form_of, gen_form, ipa_form, IsForm};
+ghost use Rattle.iot_program.specs.Words.{demo_form, eid_word, eim_form, form_of, gen_form};
+ghost use Rattle.iot_program.specs.Words.{generated_of, ipa_form, AreGenerated, IsForm};
 
 use hex::FromHex;
 use iot_bytes::read_decimal;
@@ -25,6 +26,8 @@ pub enum Form {
     Gen { start: u32, lines: u32 },
     /// `replay`: a schedule is replayed.
     Replay,
+    /// `demo START LINES`: that schedule is replayed, and what became of it is counted.
+    Demo { start: u32, lines: u32 },
 }
 
 // The EID that 32 hexadecimal digits spell. It takes no memory.
@@ -54,7 +57,7 @@ fn eim(id: &str, eid: &str) -> Option<Form>
 #[tactic(auto, using(iot_schedule::proofs::Deciding::decimal_read), unfolding(iot_schedule::specs::Tokens::number_of))]
 fn number_of_word(word: &str, least: u32, greatest: u32) -> Option<u32>
     ensures value { result ≡ number_of least greatest word.now }
-    ensures range { IfSome result (λ n. n ≤ greatest) }
+    ensures range { IfSome result (λ n. (least ≤ n) × (n ≤ greatest)) }
 {
     let n = read_decimal(word.as_bytes())?;
     if u64::from(least) <= n && n <= u64::from(greatest) {
@@ -64,13 +67,30 @@ fn number_of_word(word: &str, least: u32, greatest: u32) -> Option<u32>
     }
 }
 
+// The start of a generated schedule and how many lines it has.
+fn generated(start: &str, lines: &str) -> Option<(u32, u32)>
+    ensures numbers { result ≡ generated_of start.now lines.now }
+    ensures range { IfSome result AreGenerated }
+{
+    let start = number_of_word(start, 0, GREATEST_START)?;
+    let lines = number_of_word(lines, 1, MOST_LINES)?;
+    Some((start, lines))
+}
+
 fn generator(start: &str, lines: &str) -> Option<Form>
     ensures form { result ≡ gen_form start.now lines.now }
     ensures range { IfSome result IsForm }
 {
-    let start = number_of_word(start, 0, GREATEST_START)?;
-    let lines = number_of_word(lines, 1, MOST_LINES)?;
+    let (start, lines) = generated(start, lines)?;
     Some(Form::Gen { start, lines })
+}
+
+fn demonstration(start: &str, lines: &str) -> Option<Form>
+    ensures form { result ≡ demo_form start.now lines.now }
+    ensures range { IfSome result IsForm }
+{
+    let (start, lines) = generated(start, lines)?;
+    Some(Form::Demo { start, lines })
 }
 
 /// The form of the words behind the program's name. No word needs memory.
@@ -87,6 +107,9 @@ pub fn form_of_words(words: &[String]) -> Option<Form>
         [word, id, eid] if word.as_str() == "eim" => eim(id.as_str(), eid.as_str()),
         [word, start, lines] if word.as_str() == "gen" => {
             generator(start.as_str(), lines.as_str())
+        }
+        [word, start, lines] if word.as_str() == "demo" => {
+            demonstration(start.as_str(), lines.as_str())
         }
         _ => None,
     }

@@ -1,9 +1,10 @@
 -- One generated line more: what it did is one turn more of the run, and what it printed is counted.
-use Rattle.std.proofs.Common.{◌≡◌, ◌≢◌, ◌⊎◌, ◌<◌, ℕ, ◌+◌, ◌-◌, ◌*◌, ◌^◌, inl, inr, true, List, [], ◌∷◌, ◌++◌, length, Some, None, Result, Ok, Err, refl, ap, sym, subst, ◌∙◌, add-one, length-append, arith}
+use Rattle.std.proofs.Common.{◌≡◌, ◌≢◌, ◌<◌, ℕ, ◌+◌, ◌-◌, ◌^◌, inl, List, [], ◌∷◌, ◌++◌, length, None, Err, refl, ap, sym, subst, ◌∙◌, add-one, length-append, arith}
+use Rattle.std.specs.Prelude.{Bool}
+use Rattle.std.proofs.lemmas.Bool.{false≢true}
 use Rattle.chip_port.specs.Seen.{Seen}
 use Rattle.iot_schedule.specs.Devices.{device_at}
 use Rattle.iot_schedule.specs.Making.{made_line, state_after, state_before}
-use Rattle.iot_schedule.specs.Steps.{step_at}
 use Rattle.iot_world.specs.Turns.{StandsWith}
 use Rattle.iot_world.specs.declared.world.World.{World}
 use Rattle.line_loop.specs.declared.halt.LineStop.{LineStop}
@@ -11,8 +12,10 @@ use Rattle.line_loop.specs.declared.halt.LineStop.TheVariants.{ChipFault, Malfor
 use Rattle.modem_bank.specs.Modems.{Seen as ModemSeen}
 use Rattle.schedule_forms.specs.Schedules.{made_lines}
 use Rattle.small_world.specs.Printing.{device_printed, printed}
-use Rattle.small_world.specs.Stretches.{fates}
+use Rattle.small_world.specs.Stretches.{fates, is_far}
 use Rattle.small_world.specs.Worlds.{SmallWorld}
+use Rattle.world_card.specs.Counts.{Counted, short_fate}
+use Rattle.world_card.proofs.Counting.{same_past}
 use Rattle.world_forms.specs.Courses.{start_of, turns_of, trace}
 use Rattle.world_forms.specs.Demos.{AreCounts, IsShown, IsStoppedAt, printed_by}
 use Rattle.world_forms.specs.Handling.{BeginsBy, GoesOn, HasBegun, HasTurned}
@@ -23,7 +26,7 @@ use Rattle.world_forms.specs.declared.playing.Play.{Play}
 use Rattle.world_forms.specs.declared.tally.Tally.{Tally}
 use Rattle.world_forms.proofs.Courses.{has_first, has_more}
 use Rattle.world_forms.proofs.Keeping.{kept_first, kept_turn}
-use Rattle.world_forms.proofs.Walking.{stopped_first, stopped_on, unread}
+use Rattle.world_forms.proofs.Walking.{stopped_first, stopped_on}
 
 -- the generated lines, one by one
 pub one_line : (start : ℕ) (l : List ℕ) → l ≡ made_line start 1 → l ∷ [] ≡ made_lines start 1
@@ -108,6 +111,22 @@ halted_on play v' handed_in ms ms' start count l out s t u stop p is goes fits =
       (stopped_on handed_in s t u play.world v' ms ms' (made_lines start count) p.text l [] out stop (p.replayed, p.stands) goes (λ bad. absurd (fits bad)) (λ bad. absurd (fits bad)));
 }
 
+-- nothing was counted
+idle_counted : (far : Bool) (s : Seen) → Counted (short_fate far) s s
+idle_counted far s = record {
+  told = refl;
+  faults = omega arith;
+  cuts = omega arith;
+  breaks = omega arith;
+  uses = omega arith;
+  most = omega arith;
+  plans = refl;
+  lost = λ is. absurd (false≢true is);
+  answers = refl;
+  now = λ is. absurd (false≢true is);
+  past = same_past s.marks;
+}
+
 -- nor made
 pub unmade_on : (play : Play) (handed_in ms : List ModemSeen) (start count number state : ℕ) (s t : Seen) (stop : LineStop) → HasPlayed play handed_in (made_lines start count) count s t ms → Makes start number state (Err stop) → HasHalted handed_in start count stop s t ms
 unmade_on play handed_in ms start count number state s t ChipFault p made = absurd made
@@ -116,7 +135,7 @@ unmade_on play handed_in ms start count number state s t Limit p made = absurd m
 unmade_on play handed_in ms start count number state s t Unrecognised p made = absurd made
 unmade_on play handed_in ms start count number state s t NoMemory p made =
     halted_on play play.world handed_in ms ms start count (made_line start (count + 1)) [] s t t NoMemory p refl
-    (λ w stands. unread (s.marks.answers + 1) (made_line start (count + 1)) w play.world t ms [] [] NoMemory tt stands) (λ bad. absurd cc)
+    (λ w stands. inl (record { holds = stands.world.card.bench; counts = idle_counted (is_far w.plan) t })) (λ bad. absurd cc)
 
 -- a line behind played ones isn't the first
 pub behind_first : (play : Play) (handed_in ms : List ModemSeen) (start count number : ℕ) (s t : Seen) → HasPlayed play handed_in (made_lines start count) count s t ms → number ≡ count + 1 → number ≢ 1

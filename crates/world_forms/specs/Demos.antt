@@ -1,5 +1,5 @@
 -- A demonstration: a generated schedule is replayed, and what its lines printed is counted.
-use Rattle.std.specs.Prelude.{◌≡◌, ◌<◌, ◌≤◌, ℕ, ◌+◌, Bool, true, List, ◌∷◌, ◌++◌, length, take, filter, codes, Option, Result, Ok, Err}
+use Rattle.std.specs.Prelude.{◌≡◌, ◌≤◌, ℕ, ◌+◌, Bool, true, List, ◌∷◌, ◌++◌, length, take, filter, codes, Option, Result, Ok, Err}
 use Rattle.std.specs.Fmt.{decimal}
 use Rattle.chip_port.specs.Rules.{IfTold}
 use Rattle.chip_port.specs.Seen.{Seen}

@@ -1,5 +1,5 @@
 -- The lines of a demonstration, one by one.
-use Rattle.std.specs.Prelude.{◌≡◌, ℕ, ◌+◌, ◌*◌, ◌-◌, ◌^◌, ◌<◌, min, cond, List, [], ◌∷◌, ◌++◌, length, Result, Ok, Err}
+use Rattle.std.specs.Prelude.{◌≡◌, ℕ, ◌+◌, ◌-◌, ◌^◌, ◌<◌, min, cond, List, [], ◌∷◌, ◌++◌, length, Result, Ok, Err}
 use Rattle.chip_port.specs.Seen.{Seen}
 use Rattle.iot_schedule.specs.Making.{made_line, state_before}
 use Rattle.iot_world.specs.Turns.{StandsWith}

@@ -1,7 +1,7 @@
 use Rattle.std.proofs.Common.{◌≡◌, ◌∙◌, Some, ap, sym, subst}
 use Rattle.sgp_fields.proofs.Steps.{some_is}
 use Rattle.iot_program.specs.declared.words.Form.{Form}
-use Rattle.iot_program.specs.Ends.{HandledBy, StopsBy}
+use Rattle.iot_program.specs.Ends.{HandledBy, ReadsNothing, StepsWorld, StopsBy}
 use Rattle.iot_program.proofs.Serving.{does_words}
 use Rattle.iot_program.proofs.run.run.Goals as goal
 
@@ -22,21 +22,21 @@ pub returns-in-Some-clause-checks : goal.returns-in-Some-clause-checks
 returns-in-Some-clause-checks g c = λ input words. c.run_form.ensures.checks input (some_is _ _ (sym (sym words ∙ sym c.form_of_words.ensures.form ∙ c.in-Some.is)))
 
 pub returns-in-Some-clause-unread : goal.returns-in-Some-clause-unread
-returns-in-Some-clause-unread g c = λ start lines words. c.run_form.ensures.unread start lines (some_is _ _ (sym (sym words ∙ sym c.form_of_words.ensures.form ∙ c.in-Some.is)))
+returns-in-Some-clause-unread g c = λ nothing. c.run_form.ensures.unread (subst ReadsNothing (sym c.form_of_words.ensures.form ∙ c.in-Some.is) nothing)
 
 pub returns-in-Some-clause-faults : goal.returns-in-Some-clause-faults
 returns-in-Some-clause-faults g c = λ words. c.run_form.ensures.faults (some_is _ _ (sym (sym words ∙ sym c.form_of_words.ensures.form ∙ c.in-Some.is)))
 
 pub returns-in-Some-clause-untouched_bench : goal.returns-in-Some-clause-untouched_bench
-returns-in-Some-clause-untouched_bench g c = λ no_card no_replay.
-    c.run_form.ensures.untouched_bench (λ card. no_card (sym c.form_of_words.ensures.form ∙ c.in-Some.is ∙ ap (λ (f : Form). Some f) card)) (λ replay. no_replay (sym c.form_of_words.ensures.form ∙ c.in-Some.is ∙ ap (λ (f : Form). Some f) replay))
+returns-in-Some-clause-untouched_bench g c = λ no_card no_world.
+    c.run_form.ensures.untouched_bench (λ card. no_card (sym c.form_of_words.ensures.form ∙ c.in-Some.is ∙ ap (λ (f : Form). Some f) card)) (λ steps. no_world (subst StepsWorld (sym (sym c.form_of_words.ensures.form ∙ c.in-Some.is)) steps))
 
 pub returns-in-Some-clause-untouched_modems : goal.returns-in-Some-clause-untouched_modems
-returns-in-Some-clause-untouched_modems g c = λ other.
-    c.run_form.ensures.untouched_modems (λ replay. other (sym c.form_of_words.ensures.form ∙ c.in-Some.is ∙ ap (λ (f : Form). Some f) replay))
+returns-in-Some-clause-untouched_modems g c = λ no_world.
+    c.run_form.ensures.untouched_modems (λ steps. no_world (subst StepsWorld (sym (sym c.form_of_words.ensures.form ∙ c.in-Some.is)) steps))
 
 pub returns-in-Some-clause-broke : goal.returns-in-Some-clause-broke
-returns-in-Some-clause-broke g c = λ words. c.run_form.ensures.broke (some_is _ _ (sym (sym words ∙ sym c.form_of_words.ensures.form ∙ c.in-Some.is)))
+returns-in-Some-clause-broke g c = λ steps. c.run_form.ensures.broke (subst StepsWorld (sym c.form_of_words.ensures.form ∙ c.in-Some.is) steps)
 
 pub returns-in-Some-clause-replays : goal.returns-in-Some-clause-replays
 returns-in-Some-clause-replays g c = λ input words. c.run_form.ensures.replays input (some_is _ _ (sym (sym words ∙ sym c.form_of_words.ensures.form ∙ c.in-Some.is)))

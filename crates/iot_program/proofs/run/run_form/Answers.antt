@@ -103,3 +103,25 @@ returns-in-Replay-clause-replays g c = λ input form content told. record {
   complete = c.run_replay.ensures.complete (λ b. ((goal.Modem-dyn g (b.vtable, b.value)).shown_iccid b.value, (goal.Modem-dyn g (b.vtable, b.value)).refresh_count b.value)) input (λ modem now left post. search rules) (λ out modem result left post. search rules) content told;
   stops = λ ls more. c.run_replay.ensures.stops (λ b. ((goal.Modem-dyn g (b.vtable, b.value)).shown_iccid b.value, (goal.Modem-dyn g (b.vtable, b.value)).refresh_count b.value)) input ls more (λ modem now left post. search rules) (λ out modem result left post. search rules) content told;
 }
+
+pub returns-in-Demo-clause-does : goal.returns-in-Demo-clause-does
+returns-in-Demo-clause-does g c =
+    does_of c.args.form _ c.run_demo.result _ _ _ _ _ _ c.in-Demo.is (record {
+      demonstrated = c.run_demo.ensures.demonstrated (λ b. ((goal.Modem-dyn g (b.vtable, b.value)).shown_iccid b.value, (goal.Modem-dyn g (b.vtable, b.value)).refresh_count b.value)) (λ modem now left post. search rules) (λ out modem result left post. search rules);
+      unread = refl;
+      no_faults = refl;
+    })
+
+pub returns-in-Demo-clause-complete : goal.returns-in-Demo-clause-complete
+returns-in-Demo-clause-complete g c = λ input fs told is handled no_read no_write calm. absurd (subst (λ (f : Form). HandledBy f (g.B.Chip.sees c.args.bench.now) fs) c.in-Demo.is handled)
+
+pub returns-in-Demo-clause-stops : goal.returns-in-Demo-clause-stops
+returns-in-Demo-clause-stops g c = λ input fs tail told is handled no_read no_write calm. absurd (subst (λ (f : Form). HandledBy f (g.B.Chip.sees c.args.bench.now) fs) c.in-Demo.is handled)
+
+pub returns-in-Demo-clause-causes : goal.returns-in-Demo-clause-causes
+returns-in-Demo-clause-causes g c = record {
+  read_later = omega arith;
+  write_later = c.run_demo.ensures.monotone;
+  read = λ two. absurd (c.run_demo.ensures.own.1 two);
+  write = c.run_demo.ensures.fault;
+}

@@ -1,4 +1,4 @@
-use Rattle.std.proofs.Common.{◌≡◌, ◌∙◌, map, Err, ap, sym, subst}
+use Rattle.std.proofs.Common.{◌≡◌, ◌∙◌, map, ap, sym, subst}
 use Rattle.iot_schedule.specs.Devices.{device_at}
 use Rattle.iot_world.specs.declared.world.World.{World}
 use Rattle.schedule_forms.proofs.Made.{device_in}

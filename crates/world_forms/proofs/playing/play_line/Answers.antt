@@ -1,4 +1,4 @@
-use Rattle.std.proofs.Common.{◌≡◌, ◌∙◌, ◌+◌, ℕ, List, ◌∷◌, ◌++◌, map, Err, ap, sym, subst, arith}
+use Rattle.std.proofs.Common.{◌≡◌, ◌∙◌, ◌+◌, map, ap, sym, subst, arith}
 use Rattle.iot_schedule.specs.Making.{made_line}
 use Rattle.iot_schedule.specs.Steps.{step_at}
 use Rattle.schedule_forms.proofs.Made.{step_in}
