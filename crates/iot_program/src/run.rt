@@ -130,8 +130,8 @@ pub fn run<S: Source, K: Sink, B: Bench>(
         (edge (S.rest source.old) (S.faults source.old) (K.sent sink.old) (K.faults sink.old))
         (edge (S.rest source.new) (S.faults source.new) (K.sent sink.new) (K.faults sink.new))
         (result ≡ 2) (result ≡ 3) }
-    // With `card`, `replay` and `demo` status 4 comes only where a call on the bench failed; no other
-    // form makes any.
+    // With `card`, `replay` and `demo` status 4 comes only where a call on the bench failed; no
+    // other form makes any.
     ensures faults { form_of (map string_bytes words.now) ≡ Some Form.Card
         → HasFaults (B.sees bench.old) (B.sees bench.new) (result ≡ 4) }
     ensures broke { StepsWorld (form_of (map string_bytes words.now)) → result ≡ 4

@@ -6,4 +6,4 @@ mod Fitting
 mod Ending
 mod Tallies
 mod Plays
-mod Ends
+mod Statuses

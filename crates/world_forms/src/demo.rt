@@ -41,11 +41,7 @@ fn stop_line(alloc: Global, status: u8, number: u32) -> Result<Row<u8>, NoMemory
 }
 
 // The last text of a demonstration: the counts, or the stop line.
-fn last_text(
-    alloc: Global,
-    lines: u32,
-    end: Result<Tally, Stopped>,
-) -> Result<Row<u8>, NoMemory>
+fn last_text(alloc: Global, lines: u32, end: Result<Tally, Stopped>) -> Result<Row<u8>, NoMemory>
     ensures { IfOk result (λ out. out ≡ last_text lines end) }
 {
     match end {
@@ -111,7 +107,6 @@ pub fn run_demo<
     requires tells { F.IsAlwaysCallable tell }
     requires puts { G.IsAlwaysCallable put }
     requires start { start < 2 ^ 31 }
-    requires lines { lines ≤ 100000 }
     requires some { 1 ≤ lines }
     // How the lines went, what was sent, and what the counts are those of.
     ensures demonstrated { (view : T → Seen) → TellsOne F.Fn tell view → PutsOne G.Fn put view

@@ -1,6 +1,7 @@
 //! Replaying the lines of a generated schedule, of which counts are kept and not the trace.
 
-ghost use Rattle.std.specs.Prelude.{◌≡◌, ◌≢◌, ◌+◌, ◌^◌, ◌<◌, ◌≤◌, ℕ, map, IfErr, IfOk, OnErr, OnOk, Err, List};
+ghost use Rattle.std.specs.Prelude.{◌≡◌, ◌≢◌, ◌+◌, ◌^◌, ◌<◌, ◌≤◌, ℕ, map, IfErr, IfOk, OnErr};
+ghost use Rattle.std.specs.Prelude.{OnOk, Err, List};
 ghost use Rattle.card_store.specs.Looking.{HasCauseOf};
 ghost use Rattle.chip_port.specs.Rules.{IfTold};
 ghost use Rattle.euicc_core.specs.Steps.{IsLitOn};
@@ -121,8 +122,8 @@ fn play_line<
         → (first : B) (start count : ℕ) → number ≡ count + 1
         → play.old.maker.state ≡ state_before start number
         → (handed_in : List Seen)
-        → HasPlayed play.old handed_in (made_lines start count) count (B.sees first) (B.sees bench.old)
-        (map view modems.old.items)
+        → HasPlayed play.old handed_in (made_lines start count) count (B.sees first)
+        (B.sees bench.old) (map view modems.old.items)
         → Plays play.new handed_in start count result (B.sees first) (B.sees bench.new)
         (map view modems.new.items) }
 {
@@ -132,7 +133,16 @@ fn play_line<
     };
     let mut out = Row::new(alloc);
     let text = line.as_slice();
-    match go_on(alloc, &mut play.world, text, bench, modems, tell, put, &mut out) {
+    match go_on(
+        alloc,
+        &mut play.world,
+        text,
+        bench,
+        modems,
+        tell,
+        put,
+        &mut out,
+    ) {
         Ok(()) => {
             play.tally.count(out.as_slice());
             Ok(())

@@ -62,7 +62,8 @@ pub fn run_replay<
         → IsDone (map view modems.old.items) input (S.rest source.new) (K.sent sink.old)
         (K.sent sink.new) }
     // Such lines are replayed to their end where no call on the source or the sink fails: unless
-    // memory is wanting, a message passes the limit, or a call fails while the card is personalised.
+    // memory is wanting, a message passes the limit, or a call fails while the card is
+    // personalised.
     ensures complete { (view : T → Seen) (input : List ℕ) → TellsOne F.Fn tell view
         → PutsOne G.Fn put view → (B.sees bench.old).told ≡ true
         → S.rest source.old ≡ Some input → lines_of input ≢ [] → AreHandled (lines_of input)

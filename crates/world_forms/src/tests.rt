@@ -1,6 +1,6 @@
 //! The worked examples, and what no clause says: texts, however they come and go.
 
-ghost use Rattle.std.specs.Prelude.{◌≡◌, ◌++◌, OnErr, OnOk, length, take};
+ghost use Rattle.std.specs.Prelude.{◌≡◌, ◌<◌, ◌≤◌, ◌^◌, ◌++◌, OnErr, OnOk, length, take};
 ghost use Rattle.modem_bank.specs.Modems.{told_one};
 ghost use Rattle.small_world.specs.Texts.{modem_entry};
 
@@ -8,6 +8,7 @@ use super::*;
 use chip_port::MemChip;
 use iot_bytes::{MemSink, MemSource, NoMemory, Row};
 use modem_bank::{Modem, PlainModem, SplitModem, tell_one};
+use schedule_forms::run_gen;
 use sgp_values::Iccid;
 use std::alloc::Global;
 use std::test::Fail;
@@ -36,8 +37,23 @@ fn numbers(alloc: Global, calls: &[u64]) -> Result<Row<u64>, Fail> {
     Ok(out)
 }
 
-/// The status of a replay of this schedule over a new chip, whose first calls may fail, with a plain
-/// modem and a split one, and what was sent.
+fn tell_boxed(modem: &mut Box<dyn Modem>, now: &Option<Iccid>)
+    ensures { (shown_iccid modem.new, refresh_count modem.new)
+        ≡ told_one now.now (shown_iccid modem.old, refresh_count modem.old) }
+{
+    tell_one(&mut **modem, now);
+}
+
+fn put_boxed(out: &mut Row<u8>, modem: &Box<dyn Modem>) -> Result<(), NoMemory>
+    ensures ok { OnOk result (out.new
+        ≡ out.old ++ modem_entry (shown_iccid modem.now, refresh_count modem.now)) }
+    ensures err { OnErr result (take (length out.old) out.new ≡ out.old) }
+{
+    put_modem(out, &modem.shows(), modem.refreshes())
+}
+
+/// The status of a replay of this schedule over a new chip, whose first calls may fail, with a
+/// plain modem and a split one, and what was sent.
 fn replayed(
     alloc: Global,
     schedule: &str,
@@ -63,15 +79,8 @@ fn replayed(
         &mut sink,
         &mut chip,
         &mut modems,
-        |modem: &mut Box<dyn Modem>, now: &Option<Iccid>|
-            ensures { (shown_iccid modem.new, refresh_count modem.new)
-                ≡ told_one now.now (shown_iccid modem.old, refresh_count modem.old) }
-        { tell_one(&mut **modem, now) },
-        |out: &mut Row<u8>, modem: &Box<dyn Modem>| -> Result<(), NoMemory>
-            ensures ok { OnOk result (out.new
-                ≡ out.old ++ modem_entry (shown_iccid modem.now, refresh_count modem.now)) }
-            ensures err { OnErr result (take (length out.old) out.new ≡ out.old) }
-        { put_modem(out, &modem.shows(), modem.refreshes()) },
+        |modem: &mut Box<dyn Modem>, now: &Option<Iccid>| tell_boxed(modem, now),
+        |out: &mut Row<u8>, modem: &Box<dyn Modem>| put_boxed(out, modem),
     );
     let mut sent = Row::new(alloc);
     sent.append(sink.taken())?;
@@ -109,8 +118,8 @@ profiles +98440000000000000001 -98440000000000000002 -98440000000000000003 \
 eims e1/1/1 e2/2/1 pending\nkept 2/1/3r\nmodems 98440000000000000001:3 98440000000000000001:3\n\
 detached\nmodems 98440000000000000001:3\n";
 
-/// Schedules behind the device and its first manager, and what is printed for them. A cut at call 59
-/// of a package comes as the gate of the journal is closed.
+/// Schedules behind the device and its first manager, and what is printed for them. A cut at call
+/// 59 of a package comes as the gate of the journal is closed.
 const BEHIND: [(&str, &str); 5] = [
     (
         "order e1 enable:98440000000000000002\npoll e1\nup last\ncut 59 old\ndown last\ndown last\n\
@@ -194,5 +203,100 @@ fn schedules_that_stop(rt: HostRuntime) -> Result<(), Fail> {
     let (status, sent) = replayed(alloc, STOPPED[3].0, &WHOLE, &[0])?;
     assert_eq!(rt; status, 4);
     assert!(rt; sent.as_slice() == "stopped 4 1\n".as_bytes());
+    Ok(())
+}
+
+/// The status of a demonstration over a new chip, whose first calls may fail, and what was sent.
+fn demonstrated(
+    alloc: Global,
+    start: u32,
+    lines: u32,
+    edge: &Edge<'_>,
+    broken: &[u64],
+) -> Result<(u8, Row<u8>), Fail>
+    requires start { start < 2 ^ 31 }
+    requires some { 1 ≤ lines }
+{
+    let mut sink = MemSink::new(
+        alloc,
+        edge.room,
+        edge.piece.max(1),
+        numbers(alloc, edge.refusing)?,
+    )?;
+    let mut chip = MemChip::new(alloc, numbers(alloc, broken)?)?;
+    let mut modems: Vec<Box<dyn Modem>> = Vec::new(alloc);
+    modems.push(Box::new(alloc, PlainModem::new())?)?;
+    modems.push(Box::new(alloc, SplitModem::new())?)?;
+    let status = run_demo(
+        alloc,
+        start,
+        lines,
+        &mut sink,
+        &mut chip,
+        &mut modems,
+        |modem: &mut Box<dyn Modem>, now: &Option<Iccid>| tell_boxed(modem, now),
+        |out: &mut Row<u8>, modem: &Box<dyn Modem>| put_boxed(out, modem),
+    );
+    let mut sent = Row::new(alloc);
+    sent.append(sink.taken())?;
+    Ok((status, sent))
+}
+
+/// The trace of the schedule that the generator makes.
+fn generated_trace(alloc: Global, start: u32, lines: u32) -> Result<String, Fail>
+    requires { start < 2 ^ 31 }
+{
+    let mut sink = MemSink::new(alloc, 1 << 20, 1 << 20, numbers(alloc, &[])?)?;
+    run_gen(alloc, start, lines, &mut sink);
+    let schedule = String::from_utf8_lossy(alloc, sink.taken())?;
+    let (_, trace) = replayed(alloc, schedule.as_str(), &WHOLE, &[])?;
+    Ok(String::from_utf8_lossy(alloc, trace.as_slice())?)
+}
+
+/// How many lines of a trace begin with a word.
+fn lines_with(trace: &str, word: &str) -> usize {
+    let mut count: usize = 0;
+    for line in trace.lines() {
+        if line.starts_with(word) {
+            count = count.saturating_add(1);
+        }
+    }
+    count
+}
+
+#[test]
+fn lines_demonstrated(rt: HostRuntime) -> Result<(), Fail> {
+    let alloc = rt.alloc();
+    let (status, sent) = demonstrated(alloc, 1, 7, &WHOLE, &[])?;
+    assert_eq!(rt; status, 0);
+    let told = "demo 7 loaded 0 refused 0 rolled 0 lost 0 removed 0\n";
+    assert!(rt; sent.as_slice() == told.as_bytes());
+    for (start, lines) in [(1, 600), (77, 400)] {
+        let trace = generated_trace(alloc, start, lines)?;
+        let (status, sent) = demonstrated(alloc, start, lines, &WHOLE, &[])?;
+        let told = format!(in alloc;
+            "demo {lines} loaded {} refused {} rolled {} lost {} removed {}\n",
+            lines_with(trace.as_str(), "loaded"),
+            lines_with(trace.as_str(), "refused"),
+            lines_with(trace.as_str(), "rolled"),
+            lines_with(trace.as_str(), "lost"),
+            lines_with(trace.as_str(), "removed"),
+        )?;
+        assert_eq!(rt; status, 0);
+        assert!(rt; sent.as_slice() == told.as_bytes(), "told {told}");
+    }
+    Ok(())
+}
+
+#[test]
+fn demonstrations_that_stop(rt: HostRuntime) -> Result<(), Fail> {
+    let alloc = rt.alloc();
+    let (status, sent) = demonstrated(alloc, 1, 7, &WHOLE, &[0])?;
+    assert_eq!(rt; status, 4);
+    assert!(rt; sent.as_slice() == "stopped 4 1\n".as_bytes());
+    let short = Edge { room: 4, ..WHOLE };
+    let (status, sent) = demonstrated(alloc, 1, 7, &short, &[])?;
+    assert_eq!(rt; status, 3);
+    assert!(rt; sent.as_slice() == "demo".as_bytes());
     Ok(())
 }

@@ -100,8 +100,8 @@ const TEARS: [(Tear, u32); 4] = [
     (Tear::Junk, COMMIT),
 ];
 
-// Whether a commit that is cut so many calls in leaves the new home, or else the old one, and ends well
-// exactly where it is whole.
+// Whether a commit that is cut so many calls in leaves the new home, or else the old one, and ends
+// well exactly where it is whole.
 fn leaves(
     alloc: Global,
     homes: &[Row<u8>; 2],

@@ -1,5 +1,5 @@
 use Rattle.std.proofs.Common.{◌∙◌, sym}
-use Rattle.world_forms.proofs.Ends.{ends_four, ends_own, ends_three}
+use Rattle.world_forms.proofs.Statuses.{ends_four, ends_own, ends_three}
 use Rattle.world_forms.proofs.demo.run_demo.Goals as goal
 
 pub returns-clause-demonstrated : goal.returns-clause-demonstrated
