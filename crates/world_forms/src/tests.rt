@@ -53,9 +53,10 @@ fn put_boxed(out: &mut Row<u8>, modem: &Box<dyn Modem>) -> Result<(), NoMemory>
 }
 
 /// The status of a replay of this schedule over a new chip, whose first calls may fail, with a
-/// plain modem and a split one, and what was sent.
-fn replayed(
+/// split modem behind so many plain ones, and what was sent.
+fn replayed_with(
     alloc: Global,
+    plain: usize,
     schedule: &str,
     edge: &Edge<'_>,
     broken: &[u64],
@@ -71,7 +72,9 @@ fn replayed(
     )?;
     let mut chip = MemChip::new(alloc, numbers(alloc, broken)?)?;
     let mut modems: Vec<Box<dyn Modem>> = Vec::new(alloc);
-    modems.push(Box::new(alloc, PlainModem::new())?)?;
+    for _ in 0..plain {
+        modems.push(Box::new(alloc, PlainModem::new())?)?;
+    }
     modems.push(Box::new(alloc, SplitModem::new())?)?;
     let status = run_replay(
         alloc,
@@ -85,6 +88,16 @@ fn replayed(
     let mut sent = Row::new(alloc);
     sent.append(sink.taken())?;
     Ok((status, sent))
+}
+
+/// The same with one plain modem.
+fn replayed(
+    alloc: Global,
+    schedule: &str,
+    edge: &Edge<'_>,
+    broken: &[u64],
+) -> Result<(u8, Row<u8>), Fail> {
+    replayed_with(alloc, 1, schedule, edge, broken)
 }
 
 /// Whether a replay ends with the status, and this text is sent.
@@ -174,6 +187,20 @@ fn schedules_replayed(rt: HostRuntime) -> Result<(), Fail> {
     Ok(())
 }
 
+/// The second of three modems is taken away, and the list then has no third one.
+#[test]
+fn modems_taken_away(rt: HostRuntime) -> Result<(), Fail> {
+    let schedule = "device 000102030405060708090a0b0c0d0e0f +98440000000000000001% \
+        -98440000000000000002%\ndetach 1\nmodems\ndetach 2\nmodems\ndetach 0\nmodems\n";
+    let trace = "device 2\ndetached\nmodems 98440000000000000001:1 98440000000000000001:1\n\
+        no such\nmodems 98440000000000000001:1 98440000000000000001:1\ndetached\n\
+        modems 98440000000000000001:1\n";
+    let (status, sent) = replayed_with(rt.alloc(), 2, schedule, &WHOLE, &[])?;
+    assert_eq!(rt; status, 0);
+    assert!(rt; sent.as_slice() == trace.as_bytes());
+    Ok(())
+}
+
 /// Schedules that stop, the status, and what is sent.
 const STOPPED: [(&str, u8, &str); 5] = [
     ("", 5, "stopped 5 1\n"),
@@ -203,6 +230,66 @@ fn schedules_that_stop(rt: HostRuntime) -> Result<(), Fail> {
     let (status, sent) = replayed(alloc, STOPPED[3].0, &WHOLE, &[0])?;
     assert_eq!(rt; status, 4);
     assert!(rt; sent.as_slice() == "stopped 4 1\n".as_bytes());
+    Ok(())
+}
+
+/// How many lines end in these octets.
+fn lines_in(octets: &[u8]) -> usize {
+    octets.iter().filter(|octet| **octet == b'\n').count()
+}
+
+/// The first so many lines of a text.
+fn first_lines(text: &[u8], count: usize) -> &[u8] {
+    let mut seen: usize = 0;
+    for (at, octet) in text.iter().enumerate() {
+        if seen == count {
+            return &text[..at];
+        }
+        if *octet == b'\n' {
+            seen = seen.saturating_add(1);
+        }
+    }
+    text
+}
+
+/// A source that fails at each of its calls: one for each octet, and one at the end.
+#[test]
+fn sources_that_fail(rt: HostRuntime) -> Result<(), Fail> {
+    let alloc = rt.alloc();
+    for call in 0..=WORKED.len() {
+        let handled = lines_in(&WORKED.as_bytes()[..call]);
+        let mut sent = Row::new(alloc);
+        sent.append(first_lines(TRACE.as_bytes(), handled))?;
+        let stop = format!(in alloc; "stopped 2 {}\n", handled.saturating_add(1))?;
+        sent.append(stop.as_bytes())?;
+        let failing = [call as u64];
+        let edge = Edge {
+            failing: &failing,
+            ..WHOLE
+        };
+        assert!(rt;
+            gives(alloc, WORKED, &edge, 2, sent.as_slice())?,
+            "at read {call}"
+        );
+    }
+    Ok(())
+}
+
+/// A sink that fails at each of its calls, one for each line, and one with room for 20 octets.
+#[test]
+fn sinks_that_fail(rt: HostRuntime) -> Result<(), Fail> {
+    let alloc = rt.alloc();
+    for call in 0..32 {
+        let refusing = [call];
+        let edge = Edge {
+            refusing: &refusing,
+            ..WHOLE
+        };
+        let sent = first_lines(TRACE.as_bytes(), call as usize);
+        assert!(rt; gives(alloc, WORKED, &edge, 3, sent)?, "at write {call}");
+    }
+    let edge = Edge { room: 20, ..WHOLE };
+    assert!(rt; gives(alloc, WORKED, &edge, 3, "device 3\neim ok\neim ".as_bytes())?);
     Ok(())
 }
 
