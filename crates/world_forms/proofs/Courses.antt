@@ -1,5 +1,5 @@
 -- Runs over the lines of a schedule: their first line, further ones, and those without losses.
-use Rattle.std.proofs.Common.{◌≡◌, ℕ, ◌+◌, Bool, true, false, cond, List, [], ◌∷◌, ◌++◌, length, map, reverse, Option, Some, None, refl, ap, sym, subst, ◌∙◌, append-nil, arith}
+use Rattle.std.proofs.Common.{◌≡◌, ◌≢◌, ℕ, zero, suc, ◌+◌, Bool, true, false, cond, List, [], ◌∷◌, ◌++◌, length, map, reverse, Option, Some, None, refl, ap, sym, subst, ◌∙◌, append-nil, arith}
 use Rattle.std.proofs.lemmas.Bool.{cond_both, false≢true}
 use Rattle.std.proofs.lemmas.List.{map-append, reverse-append, flat_map_more}
 use Rattle.iot_schedule.specs.Devices.{device_at}
@@ -20,11 +20,14 @@ use Rattle.small_world.specs.Printing.{device_printed, printed}
 use Rattle.small_world.specs.Runs.{Turn, MayTurn, IsRun, IsReached, IsRunOver, AreSteps, given, is_boot, after_turn, world_after, texts_back}
 use Rattle.small_world.specs.Stepping.{lost_step, answered_step, commanded, booted}
 use Rattle.small_world.specs.Stretches.{count_fates, fate_of, fates, is_cut}
-use Rattle.small_world.specs.Worlds.{SmallWorld, start_world}
+use Rattle.small_world.specs.Worlds.{SmallWorld, start_world, started}
 use Rattle.small_world.proofs.Reached.{reached_keeps}
 use Rattle.small_world.proofs.Reaching.{command_reaches, nothing_reaches}
 use Rattle.small_world.proofs.Running.{run_lossless, run_made}
-use Rattle.world_forms.specs.Courses.{AreSpelled, IsLossless, HasRun, trace}
+use Rattle.iot_bytes.specs.Causes.{Rose}
+use Rattle.chip_port.specs.Seen.{Seen}
+use Rattle.world_forms.specs.Courses.{AreLit, AreSpelled, HasRun, IsCalm, IsLossless, start_of, trace, turns_of}
+use Rattle.world_forms.specs.Losses.{AreCounted}
 
 pub spelled_first : (l : List ℕ) (d : Device) → device_at l ≡ Some d → AreSpelled (l ∷ []) d []
 spelled_first l d is = record { first = l; steps = []; lines_are = refl; device_is = is; steps_are = refl }
@@ -213,3 +216,28 @@ alone start (t ∷ ts) lit run none =
       ap (λ (u : Turn). u ∷ ts) same ∙ ap (λ (us : List Turn). record { line = t.line; lost = false; taken = false } ∷ us) before.0,
       lit_turn w t few.0 before.1,
     )
+
+are_lit : (start : SmallWorld) (turns : List Turn) → start.lit ≡ true → IsRun start turns → count_fates (λ f. f.lost) (fates start turns) ≡ 0 → AreLit start turns
+unfolding IsRun fates fate_of count_fates
+are_lit start [] lit run none = tt
+are_lit start (t ∷ ts) lit run none =
+    let few = none_more t.lost (count_fates (λ f. f.lost) (fates start ts)) none in
+    ((alone start ts lit run.1 few.1).1, are_lit start ts lit run.1 few.1)
+
+calm_when : (start : SmallWorld) (turns : List Turn) → start.lit ≡ true → IsRun start turns → count_fates (λ f. f.lost) (fates start turns) ≡ 0 → IsCalm start turns
+calm_when start turns lit run none = record { plain = (alone start turns lit run none).0; lit = are_lit start turns lit run none }
+
+start_lit : (d : Device) (handed_in : List ModemSeen) → (start_world d handed_in).lit ≡ true
+unfolding start_world started
+start_lit d handed_in = refl
+
+-- where a count that isn't zero has a consequence that isn't there, it is zero
+none_without : (n : ℕ) (X : Type 0) → (n ≢ 0 → X) → (X → ⊥) → n ≡ 0
+none_without zero X some never = refl
+none_without (suc n) X some never = absurd (never (some (λ z. absurd (omega (arith, z)))))
+
+-- a run of which the bench counted no fault
+pub calm_run : {handed_in : List ModemSeen} {ls : List (List ℕ)} {text : List ℕ} (r : HasRun handed_in ls text) (s t : Seen) → AreCounted s t (fates (start_of r) (turns_of r)) → (Rose s.faults t.faults → ⊥) → IsCalm (start_of r) (turns_of r)
+calm_run {handed_in} {ls} {text} r s t counted never =
+    calm_when (start_of r) (turns_of r) (start_lit r.device handed_in) r.run.may
+    (none_without (count_fates (λ f. f.lost) (fates (start_of r) (turns_of r))) (Rose s.faults t.faults) counted.lost never)

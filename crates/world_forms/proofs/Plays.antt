@@ -24,7 +24,7 @@ use Rattle.world_forms.specs.Replays.{Stops}
 use Rattle.world_forms.specs.Starting.{untouched_same}
 use Rattle.world_forms.specs.declared.playing.Play.{Play}
 use Rattle.world_forms.specs.declared.tally.Tally.{Tally}
-use Rattle.world_forms.proofs.Courses.{has_first, has_more}
+use Rattle.world_forms.proofs.Courses.{calm_run, has_first, has_more}
 use Rattle.world_forms.proofs.Keeping.{kept_first, kept_turn}
 use Rattle.world_forms.proofs.Walking.{stopped_first, stopped_on}
 
@@ -48,13 +48,15 @@ pub played_first : (play : Play) (none : Tally) (handed_in ms : List ModemSeen) 
 unfolding fates
 played_first play none handed_in ms l out s t g nothing counts =
     let d = g.device in
+    let kept = kept_first s t d handed_in g.begun.counts g.begun.stands.world.card.bench in
     record {
       text = trace d [];
       replayed = record {
         has = has_first handed_in l d g.spelled;
-        kept = kept_first s t d handed_in g.begun.counts g.begun.stands.world.card.bench;
+        kept = kept;
         plan = g.begun.stands.world.card.plan;
         same = g.begun.stands.same_modems;
+        calm = calm_run (has_first handed_in l d g.spelled) s t kept.counted;
       };
       stands = g.begun.stands;
       counts = counts [] (device_printed (length d.profiles)) g.says (omega arith) nothing;
@@ -67,13 +69,15 @@ pub played_on : (play play' : Play) (handed_in ms ms' : List ModemSeen) (ls : Li
 played_on play play' handed_in ms ms' ls count l out s t u p g counts few =
     let has = p.replayed.has in
     let x : List ℕ = printed has.world g.turn.line g.turn.lost in
+    let kept = kept_turn s t u (start_of has) g.turn (turns_of has) has.world has.run.end_is p.replayed.kept g.counts g.stands.world.card.bench g.woken in
     record {
       text = p.text ++ (x ++ 10 ∷ []);
       replayed = record {
         has = has_more has l g.turn g.spelled g.may;
-        kept = kept_turn s t u (start_of has) g.turn (turns_of has) has.world has.run.end_is p.replayed.kept g.counts g.stands.world.card.bench g.woken;
+        kept = kept;
         plan = g.stands.world.card.plan;
         same = g.stands.same_modems;
+        calm = calm_run (has_more has l g.turn g.spelled g.may) s u kept.counted;
       };
       stands = g.stands;
       counts = counts (printed_by has) x g.says (omega (arith, p.many, few)) p.counts;

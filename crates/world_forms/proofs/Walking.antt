@@ -33,7 +33,7 @@ use Rattle.world_forms.specs.Handling.{BeginsBy, GoesOn, HasBegun, HasTurned, Ha
 use Rattle.world_forms.specs.Keeping.{IsKept}
 use Rattle.world_forms.specs.Replays.{IsReplayed, IsTurnedBehind, IsUnbegun, IsUnsentBehind, IsUntoldBehind, Stops, no_change}
 use Rattle.world_forms.specs.Walks.{IsAt}
-use Rattle.world_forms.proofs.Courses.{has_first, has_more, trace_first}
+use Rattle.world_forms.proofs.Courses.{calm_run, has_first, has_more, trace_first}
 use Rattle.world_forms.proofs.Keeping.{kept_after, kept_first, kept_short, kept_turn}
 
 -- what a bench holds is the same after the modems were told
@@ -103,12 +103,14 @@ led_on handed_in s t u v v' ms ms' ls b l before out text grows at goes =
     let (r, stands) = at in
     let has = r.has in
     let g = goes has.world stands in
+    let kept = kept_turn s t u (start_of has) g.turn (turns_of has) has.world has.run.end_is r.kept g.counts g.stands.world.card.bench g.woken in
     subst (λ (x : List ℕ). IsAt (Some v') handed_in s u ms' (ls ++ l ∷ []) (b ++ x)) (one_text before out text _ grows g.says) (
       record {
         has = has_more has l g.turn g.spelled g.may;
-        kept = kept_turn s t u (start_of has) g.turn (turns_of has) has.world has.run.end_is r.kept g.counts g.stands.world.card.bench g.woken;
+        kept = kept;
         plan = g.stands.world.card.plan;
         same = g.stands.same_modems;
+        calm = calm_run (has_more has l g.turn g.spelled g.may) s u kept.counted;
       },
       g.stands,
     )
@@ -159,14 +161,16 @@ led_first handed_in s t u v ms ms' ls b l before out text grows n begun =
     let g = subst (λ (h : List ModemSeen). HasBegun h l v t u ms' before out) n.same begun in
     let d = g.device in
     let stands = subst (λ (k : ℕ). StandsWith (k + 1) v u ms' (start_world d handed_in)) (ap (λ (m : Marks). m.answers) n.bench.keeps.marks) g.begun.stands in
+    let kept = kept_first s u d handed_in (counted_from s t u n.bench g.begun.counts) stands.world.card.bench in
     let said : trace d [] ≡ b ++ text =
     trace_first d ∙ one_text before out text (device_printed (length d.profiles) ++ 10 ∷ []) grows g.says ∙ ap (λ (z : List ℕ). z ++ text) (sym n.silent) in
     let at : IsAt (Some v) handed_in s u ms' (l ∷ []) (trace d []) = (
       record {
         has = has_first handed_in l d g.spelled;
-        kept = kept_first s u d handed_in (counted_from s t u n.bench g.begun.counts) stands.world.card.bench;
+        kept = kept;
         plan = stands.world.card.plan;
         same = stands.same_modems;
+        calm = calm_run (has_first handed_in l d g.spelled) s u kept.counted;
       },
       stands,
     ) in

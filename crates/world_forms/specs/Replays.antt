@@ -26,7 +26,7 @@ use Rattle.small_world.specs.Stepping.{commanded}
 use Rattle.small_world.specs.Stretches.{fates, is_far}
 use Rattle.world_card.specs.Counts.{answered_fate, short_fate}
 use Rattle.world_card.specs.Starts.{IsUnstarted}
-use Rattle.world_forms.specs.Courses.{HasRun, start_of, turns_of}
+use Rattle.world_forms.specs.Courses.{HasRun, IsCalm, start_of, turns_of}
 use Rattle.world_forms.specs.Keeping.{IsKept}
 
 -- The same counts.
@@ -41,12 +41,13 @@ pub record IsUnbegun (handed_in : List ModemSeen) (s t : Seen) (modems : List Mo
   pub same : modems ≡ handed_in
 
 -- These lines were handled, and this text is the trace of their run; the bench holds it, the modems are those of its
--- last world, and so is the plan.
+-- last world, and so is the plan. Where no call of the bench failed, the lines alone make the run.
 pub record IsReplayed (handed_in : List ModemSeen) (s t : Seen) (modems : List ModemSeen) (ls : List (List ℕ)) (text : List ℕ) : Type 0 where
   pub has : HasRun handed_in ls text
   pub kept : IsKept s t (start_of has) (turns_of has) has.world (fates (start_of has) (turns_of has))
   pub plan : t.tally.plan ≡ has.world.plan
   pub same : modems ≡ has.world.modems
+  pub calm : ¬ Rose s.faults t.faults → IsCalm (start_of has) (turns_of has)
 
 -- These lines are in the grammar; where the bench tells its content, a run was made of them, if there is one.
 pub record Replays (handed_in : List ModemSeen) (s t : Seen) (modems : List ModemSeen) (ls : List (List ℕ)) (text : List ℕ) : Type 0 where
