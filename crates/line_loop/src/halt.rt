@@ -4,7 +4,7 @@ ghost use Rattle.std.specs.Prelude.{◌≡◌};
 ghost use Rattle.line_loop.specs.Status.{closing_status, exit_status, halt_status, has_stop_line};
 ghost use Rattle.line_loop.specs.Status.{end_status, is_end, line_status, read_status};
 
-use iot_bytes::WriteFault;
+use iot_bytes::Failed;
 use run_loop::SendStop;
 
 /// Why there is no further line.
@@ -182,12 +182,12 @@ impl From<LineStop> for Halt {
     }
 }
 
-impl From<WriteFault> for Halt {
+impl From<Failed> for Halt {
     ghost use Rattle.line_loop.specs.declared.halt.Halt.TheVariants.{Sending};
 
     ghost from_gives = { λ _ halt. halt ≡ Sending };
 
-    fn from(_fault: WriteFault) -> Halt {
+    fn from(_fault: Failed) -> Halt {
         Halt::Sending
     }
 }

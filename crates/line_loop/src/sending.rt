@@ -4,17 +4,20 @@ ghost use Rattle.std.specs.Prelude.{◌≡◌, ◌≤◌, true, IfOk, OnErr, Err
 ghost use Rattle.iot_bytes.specs.Causes.{Rose};
 ghost use Rattle.line_loop.specs.Sends.{Sent, SentLast, Closes, stop_line};
 
-use iot_bytes::{NoMemory, Row, Sink, WriteFault, put_decimal, send};
+use iot_bytes::{Failed, NoMemory, Row, Sink, put_decimal, send};
 use run_loop::SendStop;
 use std::alloc::Global;
 
 /// Sends a text.
-pub fn send_text<K: Sink>(text: &[u8], sink: &mut K) -> Result<(), WriteFault>
+pub fn send_text<K: Sink>(text: &[u8], sink: &mut K) -> Result<(), Failed>
     ensures sent { Sent (K.sent sink.old) (K.sent sink.new) text.now result }
     ensures fault { OnErr result (Rose (K.faults sink.old) (K.faults sink.new)) }
     ensures monotone { K.faults sink.old ≤ K.faults sink.new }
 {
-    send(sink, text)
+    match send(sink, text) {
+        Ok(()) => Ok(()),
+        Err(_) => Err(Failed),
+    }
 }
 
 /// Sends the last text of a run.
@@ -25,7 +28,7 @@ pub fn send_last<K: Sink>(text: &[u8], sink: &mut K) -> Result<(), SendStop>
 {
     match send_text(text, sink) {
         Ok(()) => Ok(()),
-        Err(_) => Err(SendStop::Fault),
+        Err(Failed) => Err(SendStop::Fault),
     }
 }
 

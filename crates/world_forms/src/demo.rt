@@ -2,7 +2,7 @@
 
 ghost use Rattle.std.specs.Prelude.{◌≡◌, ◌≢◌, ◌^◌, ◌<◌, ◌≤◌, true, List, ℕ, map, IfOk, Err};
 ghost use Rattle.iot_bytes.specs.Causes.{Rose};
-ghost use Rattle.line_loop.specs.Sends.{Closes, stop_line};
+ghost use Rattle.line_loop.specs.Sends.{Closes};
 ghost use Rattle.modem_bank.specs.Modems.{Seen};
 ghost use Rattle.modem_bank.specs.Telling.{TellsOne};
 ghost use Rattle.world_text.specs.Putting.{PutsOne};
@@ -11,8 +11,8 @@ ghost use Rattle.world_forms.specs.Demos.{Demonstrated, halt_of, is_due, last_te
 use crate::playing::{Stopped, play_lines};
 use crate::tally::Tally;
 use chip_port::Bench;
-use iot_bytes::{NoMemory, Row, Sink, put_decimal, send};
-use line_loop::{Halt, NoLine, RunEnd};
+use iot_bytes::{NoMemory, Row, Sink};
+use line_loop::{Halt, NoLine, RunEnd, send_last, send_stopped};
 use run_loop::SendStop;
 use sgp_values::Iccid;
 use std::alloc::Global;
@@ -26,47 +26,7 @@ fn halt_of(end: Result<Tally, Stopped>) -> Halt
     }
 }
 
-// The stop line, with its end.
-#[tactic(auto, unfolding(line_loop::specs::Sends::stop_line))]
-fn stop_line(alloc: Global, status: u8, number: u32) -> Result<Row<u8>, NoMemory>
-    ensures { IfOk result (λ out. out ≡ stop_line status number) }
-{
-    let mut out = Row::new(alloc);
-    out.append(b"stopped ")?;
-    put_decimal(&mut out, u64::from(status))?;
-    out.append(b" ")?;
-    put_decimal(&mut out, u64::from(number))?;
-    out.append(b"\n")?;
-    Ok(out)
-}
-
-// The last text of a demonstration: the counts, or the stop line.
-fn last_text(alloc: Global, lines: u32, end: Result<Tally, Stopped>) -> Result<Row<u8>, NoMemory>
-    ensures { IfOk result (λ out. out ≡ last_text lines end) }
-{
-    match end {
-        Ok(tally) => tally.demo_line(alloc, lines),
-        Err(at) => stop_line(alloc, Halt::Handling(at.stop).status(), at.number),
-    }
-}
-
-// Sends the last text.
-fn send_last<K: Sink>(text: Result<Row<u8>, NoMemory>, sink: &mut K) -> Result<(), SendStop>
-    ensures closes { (last : List ℕ) → IfOk text (λ row. row ≡ last)
-        → Closes true (K.sent sink.old) (K.sent sink.new) last result }
-    ensures fault { result ≡ Err SendStop.Fault → Rose (K.faults sink.old) (K.faults sink.new) }
-    ensures monotone { K.faults sink.old ≤ K.faults sink.new }
-{
-    let Ok(text) = text else {
-        return Err(SendStop::NoMemory);
-    };
-    match send(sink, text.as_slice()) {
-        Ok(()) => Ok(()),
-        Err(_) => Err(SendStop::Fault),
-    }
-}
-
-// Sends it, where one is due.
+// Sends the counts, or the stop line where one is due.
 fn close<K: Sink>(
     alloc: Global,
     lines: u32,
@@ -78,11 +38,20 @@ fn close<K: Sink>(
     ensures fault { result ≡ Err SendStop.Fault → Rose (K.faults sink.old) (K.faults sink.new) }
     ensures monotone { K.faults sink.old ≤ K.faults sink.new }
 {
-    let halt = halt_of(end);
-    if halt.is_end() || halt.has_stop_line() {
-        return send_last(last_text(alloc, lines, end), sink);
+    match end {
+        Ok(tally) => match tally.demo_line(alloc, lines) {
+            Ok(text) => send_last(text.as_slice(), sink),
+            Err(NoMemory) => Err(SendStop::NoMemory),
+        },
+        Err(at) => {
+            let halt = Halt::Handling(at.stop);
+            if halt.has_stop_line() {
+                send_stopped(alloc, halt.status(), u64::from(at.number), sink)
+            } else {
+                Ok(())
+            }
+        }
     }
-    Ok(())
 }
 
 /// Replays the schedule of so many lines that the generator makes from a start, and sends one line
