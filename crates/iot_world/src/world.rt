@@ -12,7 +12,7 @@ pub struct World {
 
 impl World {
     /// A world of these parts.
-    pub fn of(network: Network, card: BenchCard) -> World
+    pub(crate) fn of(network: Network, card: BenchCard) -> World
         ensures network { result.network ≡ network }
         ensures card { result.card ≡ card }
     {
