@@ -1,7 +1,7 @@
 """The runs of the small world that fit a trace (docs/WORLD.md).
 
 A trace leaves one thing open: whether a boot found the unit of a lost step done. Each way that a
-run can have gone is followed until a later text rules it out: what is left is what the trace tells."""
+run can have gone is followed until a later text rules it out; what is left is what is told."""
 
 import copy
 from collections import namedtuple
