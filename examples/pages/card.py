@@ -3,6 +3,7 @@
 The rules are those of docs/CARD.md."""
 
 from collections import namedtuple
+from functools import partial
 
 GREATEST = 4_294_967_295
 
@@ -28,7 +29,7 @@ def switched(profiles, iccid):
     return tuple(Profile(profile.iccid, profile.iccid == iccid) for profile in profiles)
 
 
-def on_profiles(state, operation, former):
+def on_profiles(former, state, operation):
     """One operation on profiles: whether it is done, its item, and what it leaves."""
     name, _, iccid = operation.partition(":")
     profiles, armed = state
@@ -120,8 +121,8 @@ def loaded(card, package, good):
         items, state = executed(state, package.operations, on_entries)
         after = after._replace(entries=state[0], next_association=state[1])
     else:
-        one = lambda state, operation: on_profiles(state, operation, former)
-        items, state = executed((card.profiles, False), package.operations, one)
+        state = (card.profiles, False)
+        items, state = executed(state, package.operations, partial(on_profiles, former))
         after = after._replace(profiles=state[0], armed=(former, seq) if state[1] else None)
     return " ".join([f"loaded {seq}", *items]), after
 

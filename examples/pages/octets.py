@@ -39,8 +39,7 @@ def package_of(digits):
         (_, inner), (_, _signature) = elements(outer)
         (_, name), (_, eid), (_, association), (_, counter), (_, body) = elements(inner)
         operations = tuple(operation_of(tag, content) for tag, content in elements(body))
-        number = lambda octets: int.from_bytes(octets, "big")
-        words = (name.decode("ascii"), eid.hex(), number(association), number(counter))
-        return Package(*words, operations) if operations else None
+        numbers = [int.from_bytes(octets, "big") for octets in (association, counter)]
+        return Package(name.decode("ascii"), eid.hex(), *numbers, operations) if operations else None
     except (ValueError, IndexError, KeyError, UnicodeDecodeError):
         return None

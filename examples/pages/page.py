@@ -7,6 +7,7 @@ from picture import Picture
 from reading import OPEN, told
 
 PART = 100
+MOST_LINKS = 12
 STOPS = {
     2: "reading the schedule failed",
     4: "the chip failed while the first line made the card",
@@ -69,15 +70,20 @@ def counted(count, what):
     return f"{count} {what}" if count == 1 else f"{count} {what}s"
 
 
+def places(rows, word):
+    """How many texts begin with a word, and where the first of them stand."""
+    numbers = [row.number for row in rows if row.text.split(" ")[0] == word]
+    links = [f'<a href="#c{number}">{number}</a>' for number in numbers[:MOST_LINKS]]
+    more = ", …" if len(numbers) > MOST_LINKS else ""
+    where = f" (at {', '.join(links)}{more})" if links else ""
+    return f"<b>{word}</b> {len(numbers)}{where}."
+
+
 def summary(story):
     """What became of the schedule, in a few sentences."""
     rows = [row for row in story.rows if row.events]
-    counts = [
-        f"{word} {sum(row.text.split(' ')[0] == word for row in rows)}"
-        for word in ("loaded", "refused", "rolled", "lost", "removed")
-    ]
-    said = [f"{counted(len(story.rows), 'line')}, of which {len(rows)} have a text in the trace"]
-    said[0] += f" ({', '.join(counts)})." if rows else "."
+    said = [f"{counted(len(story.rows), 'line')}, of which {len(rows)} have a text in the trace."]
+    said += [places(rows, word) for word in ("loaded", "refused", "rolled", "lost", "removed")]
     if story.stop:
         status, number = story.stop
         why = STOPS.get(status, "the replay stopped")
@@ -104,9 +110,9 @@ def note(row, picture):
         up = row.line.startswith("up")
         message = (picture.ups if up else picture.downs)[event.delivered[0]]
         sent = picture.rows[message.column].number
-        named = lambda name: "a manager that isn't told" if name is OPEN else name
-        ways = f"to {named(message.name)}" if up else f"from {named(message.name)}"
-        said.append(f"{message.what} {ways}, sent in line {sent}")
+        name = "a manager that isn't told" if message.name is OPEN else message.name
+        way = "to" if up else "from"
+        said.append(f"{message.what} {way} {name}, sent in line {sent}")
     if len(row.events) > 1:
         said.append("the trace leaves open what was in progress as the power failed")
     return "; ".join(said)

@@ -118,7 +118,8 @@ class Picture:
                 self.put(shade, first, last)
         for first, last, planned in self.stretches("planned"):
             if planned:
-                line = f'<path d="M{middle(first)} {y} H{middle(last) + COLUMN}" class="plan"/>'
+                end = min(middle(last + 1), self.ends * COLUMN)
+                line = f'<path d="M{middle(first)} {y} H{end}" class="plan"/>'
                 self.put(line, first, min(last + 1, self.ends - 1))
 
     def stretches(self, field):
@@ -263,6 +264,7 @@ class Picture:
         for at, parts in enumerate(self.tiles):
             first, last = at * TILE + 1, min((at + 1) * TILE, len(self.rows))
             size = max(last - first + 1, 1) * COLUMN
+            size += COLUMN // 2 if last == len(self.rows) else 0
             head = f'<svg class="tile" width="{size}" height="{self.lanes.height}" role="group" '
             head += f'viewBox="{at * TILE * COLUMN} 0 {size} {self.lanes.height}" '
             head += f'aria-label="lines {first} to {last}">'

@@ -140,6 +140,12 @@ def told(row, field):
     return values.pop() if len(values) == 1 else OPEN
 
 
+def nickname(digits):
+    """A nickname, with a mark in place of what can't be printed."""
+    text = bytes.fromhex(digits).decode("utf-8", "replace")
+    return "".join(letter if letter.isprintable() else "�" for letter in text)
+
+
 def read(schedule, trace):
     """The story that a schedule and its trace tell."""
     lines = lines_of(schedule)
@@ -159,5 +165,5 @@ def read(schedule, trace):
     ]
     managers = [r.line.split(" ")[1] for r in rows if r.text == "eim ok"]
     words = lines[0].split(" ")[2:] if events else []
-    profiles = [(w[1:21].lower(), bytes.fromhex(w.partition("%")[2]).decode()) for w in words]
+    profiles = [(word[1:21].lower(), nickname(word.partition("%")[2])) for word in words]
     return Story(rows, stop, torn, managers, profiles)

@@ -5,6 +5,7 @@ run can have gone is followed until a later text rules it out; what is left is w
 
 import copy
 from collections import namedtuple
+from functools import partial
 
 import card as cards
 from octets import package_of
@@ -236,7 +237,7 @@ class World:
             return "rest"
         if what != "package":
             return self.command("remove", lambda card: cards.removed(card, content))
-        load = lambda card: cards.loaded(card, content, verdict == "good")
+        load = partial(cards.loaded, package=content, good=verdict == "good")
         return self.command("load", load, lambda text: self.obeyed(text, name))
 
     def obeyed(self, text, name):
@@ -257,7 +258,7 @@ class World:
             return self.command("load", lambda card: (self.said, None))
         if not package:
             return self.command("load", lambda card: ("refused 1", None))
-        load = lambda card: cards.loaded(card, package, verdict == "good")
+        load = partial(cards.loaded, package=package, good=verdict == "good")
         return self.command("load", load, self.taken)
 
     def on_push(self):
