@@ -40,6 +40,7 @@ def package_of(digits):
         (_, name), (_, eid), (_, association), (_, counter), (_, body) = elements(inner)
         operations = tuple(operation_of(tag, content) for tag, content in elements(body))
         numbers = [int.from_bytes(octets, "big") for octets in (association, counter)]
-        return Package(name.decode("ascii"), eid.hex(), *numbers, operations) if operations else None
+        package = Package(name.decode("ascii"), eid.hex(), *numbers, operations)
+        return package if operations else None
     except (ValueError, IndexError, KeyError, UnicodeDecodeError):
         return None

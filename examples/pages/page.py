@@ -29,6 +29,8 @@ SIGNS = [
      "a message to the assistant"),
     ('<path d="M4 9 H16" class="way up"/><circle cx="20" cy="9" r="4" class="stray up"/>',
      "a message that is never delivered"),
+    ('<text x="8" y="13" class="bad">bad</text>',
+     "the verdict on the message's signature is bad"),
     ('<path d="M20 1 V12" class="way ask"/><path d="M20 17 L16 10 H24 Z" class="head ask"/>',
      "the assistant gives the card a command"),
     ('<g class="pill loaded"><rect x="2" y="2" width="38" height="14" rx="6"/></g>',

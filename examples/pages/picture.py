@@ -186,22 +186,24 @@ class Picture:
             self.put(f'<circle cx="{start}" cy="{y}" r="4" class="stray {kind}"/>', first)
 
     def draw_arrow(self, message, column, y, goal, kind):
-        """A delivery: from the message's track, or where it has none from its number alone."""
+        """A delivery from the message's track; its number stands there again where that is far."""
         x = middle(column) - 8
         tip = goal + 5 if goal < y else goal - 5
         back = tip + 8 if goal < y else tip - 8
         head = f'<path d="M{x} {tip} L{x - 4} {back} H{x + 4} Z" class="head {kind}"/>'
         line = f'<path d="M{x} {y} V{back}" class="way {kind}"/>'
         self.put(line + head, column)
-        if message.track is None:
-            self.put(text_at(x + 4, y - 4, f"{message.place}", f"tag {kind}"), column)
+        if message.track is None or column > message.column + 1:
+            near = back + 10 if goal < y else back - 4
+            self.put(text_at(x - 5, near, str(message.place), f"tag e {kind}"), column)
 
     def draw_line(self, column, row, event):
         """What a line does in its lanes."""
         words, lanes = row.line.split(" "), self.lanes
         word, text = words[0], row.text
         if word in ("eim", "bind", "order", "skip", "kept") and text != "no such":
-            said = {"eim": "joins", "kept": "kept"}.get(word, text)
+            said = {"eim ok": "joins", "eim exists": "is there"}.get(text, text)
+            said = "kept" if word == "kept" else said
             self.put(pill(column, lanes.manager(words[1]), said, word), column)
         if word == "up" and event.delivered:
             self.put(dot(column, lanes.manager(event.delivered[2])), column)
