@@ -1,6 +1,6 @@
 -- One more result received.
 use Rattle.std.proofs.Common.{◌≡◌, ℕ, ◌+◌, ◌≤◌, ◌<◌, suc, zero, Bool, true, false, not, ◌&&◌, ◌||◌, cond, List, [], ◌∷◌, ◌++◌, length, map, refl, ◌∙◌, ap, sym, subst, arith, Option, None, Some, nat_lt, get_or, set}
-use Rattle.std.specs.Prelude.{◌==◌, position, Result, Ok, Err, OnOk}
+use Rattle.std.specs.Prelude.{◌==◌, position, Result, Ok, Err, OnOk, OnErr}
 use Rattle.std.specs.List.{list_any, cons_option, filter_map, position_or_len}
 use Rattle.std.proofs.lemmas.Bool.{cond_both, cond-true, cond-false, eqb-true, eq-eqb, and_parts, or_parts, or_right, lt-ltb, le-ltb, true≢false, false≢true, ltb-false}
 use Rattle.std.proofs.lemmas.List.{map-append}
@@ -10,14 +10,11 @@ use Rattle.small_card.specs.Lists.{Every, EveryPair}
 use Rattle.small_card.specs.declared.types.PackageResult.{PackageResult}
 use Rattle.small_card.proofs.ListLemmas.{every_push, every_mono, every_both, every_all, pair_push, any_push, none_every, every_none}
 use Rattle.esipa_codec.specs.Records.{Key, key, keys, is_of, is_recorded, greater, record_of, records_of}
+use Rattle.eim_queue.specs.Places.{is_key}
 use Rattle.eim_queue.specs.Records.{AreRecords}
 
--- a key is among keys
-abbrev pub is_key : ℕ → ℕ → Key → Bool
-is_key association counter k = k.0 == association && k.1 == counter
-
 -- the same test on results and on keys
-any_key : (association counter : ℕ) (rs : List PackageResult) → list_any (is_key association counter) (map key rs) ≡ list_any (is_of association counter) rs
+pub any_key : (association counter : ℕ) (rs : List PackageResult) → list_any (is_key association counter) (map key rs) ≡ list_any (is_of association counter) rs
 any_key association counter [] = refl
 any_key association counter (r ∷ rs) = ap (λ b. is_of association counter r || b) (any_key association counter rs)
 
@@ -163,6 +160,10 @@ same_key r s e =
     let c : s.counter ≡ r.counter = eqb-true s.counter r.counter both.1 in
     ap (λ n. (n, r.counter)) (sym a) ∙ ap (λ n. (s.association, n)) (sym c)
 
+-- a result of the same key takes the place
+pub same_keys : (rows : List PackageResult) (at : ℕ) (r s : PackageResult) → IsPlace rows at r s → map key (set rows at r) ≡ map key rows
+same_keys rows at r s p = map-set_same key rows at r s (same_key r s p.its ∙ ap key (sym p.there))
+
 keys_stay : (rows received : List PackageResult) (at : ℕ) (r s : PackageResult) → AreRecords rows received → IsPlace rows at r s → keys (r ∷ received) ≡ keys received
 unfolding keys
 keys_stay rows received at r s h p =
@@ -191,7 +192,7 @@ greater_old r s l = cond-false (nat_lt s.seq r.seq) r s (le-ltb s.seq r.seq l)
 -- a greater number takes the record's place
 pub replaced_records : (rows received : List PackageResult) (at : ℕ) (r s : PackageResult) → AreRecords rows received → IsPlace rows at r s → s.seq < r.seq → AreRecords (set rows at r) (r ∷ received)
 replaced_records rows received at r s h p l = record {
-  order = map-set_same key rows at r s (same_key r s p.its ∙ ap key (sym p.there)) ∙ h.order ∙ sym (keys_stay rows received at r s h p);
+  order = same_keys rows at r s p ∙ h.order ∙ sym (keys_stay rows received at r s h p);
   each = set_every (λ x. record_of x.association x.counter (r ∷ received) ≡ Some x) (is_of r.association r.counter) rows at r s p.inside (ap (is_of r.association r.counter) p.there ∙ p.its)
       (rows_apart r.association r.counter rows received h) (others_stay rows received r h)
       (place_record rows received at r s h p ∙ ap (λ x. Some x) (greater_new r s l));
@@ -238,6 +239,10 @@ found_none rows shown r same e = every_none (is_of r.association r.counter) rows
 pub then_ok : {T E : Type 0} (r : Result T E) (P Q : Type 0) → (P → Q) → OnOk r P → OnOk r Q
 then_ok (Ok x) P Q f h = f h
 then_ok (Err x) P Q f h = tt
+
+pub either_way : {T E : Type 0} (r : Result T E) (P Q R : Type 0) → (P → R) → (Q → R) → OnOk r P → OnErr r Q → R
+either_way (Ok x) P Q R f g h k = f h
+either_way (Err x) P Q R f g h k = g k
 
 -- a record of a key is there exactly where a result of that key was received
 pub known_records : (rows received : List PackageResult) (association counter : ℕ) → AreRecords rows received → list_any (is_of association counter) rows ≡ is_recorded association counter received

@@ -1,4 +1,5 @@
+mod Finding
+mod Following
 mod Keeping
-mod Counting
 mod Standing
 mod Sending

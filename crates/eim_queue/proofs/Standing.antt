@@ -1,6 +1,6 @@
 -- A queue stands for an eIM, before and after each event.
 use Rattle.std.proofs.Common.{◌≡◌, ℕ, ◌≤◌, ◌<◌, ◌+◌, Bool, true, false, not, ◌&&◌, ◌||◌, cond, List, [], ◌∷◌, ◌++◌, length, map, refl, ◌∙◌, ap, sym, subst, arith, zero, suc, Option, None, Some, nat_lt, get_or, set}
-use Rattle.std.specs.Prelude.{◌==◌, ◌-◌, find, filter, position}
+use Rattle.std.specs.Prelude.{◌==◌, ◌-◌, find, filter, position, IfSome}
 use Rattle.std.proofs.lemmas.Bool.{cond-true, cond-false, eqb-true, lt-ltb, le-ltb}
 use Rattle.std.proofs.lemmas.List.{map-append, map-set, get_or-map, length-map}
 use Rattle.std.proofs.lemmas.List.Quantifiers.{position-Some}
@@ -10,7 +10,7 @@ use Rattle.small_card.specs.declared.types.Body.{Body}
 use Rattle.small_card.specs.declared.types.Body.TheVariants.{Psmos}
 use Rattle.small_card.specs.declared.types.PackageResult.{PackageResult}
 use Rattle.small_card.specs.declared.types.Refused.{Refused}
-use Rattle.esipa_codec.specs.Eims.{EimState, Order as Ordered, new_eim, counters_of, bind_end, bound_to, order_end, order_end_of, ordered, ordered_by, waits, first_waiting, skip_first, skipped, skip_end, counter_of, package_of, answer_with, message_end, heard, last_of}
+use Rattle.esipa_codec.specs.Eims.{EimState, Order as Ordered, new_eim, counters_of, bind_end, bound_to, order_end, order_end_of, ordered, ordered_by, waits, first_waiting, skip_first, skipped, skip_end, counter_of, package_of, answer_with, message_end, heard}
 use Rattle.esipa_codec.specs.Records.{is_of, is_recorded, keys}
 use Rattle.esipa_codec.specs.declared.ends.Binding.{Binding}
 use Rattle.esipa_codec.specs.declared.ends.BindEnd.TheVariants as bound
@@ -22,10 +22,11 @@ use Rattle.esipa_codec.specs.declared.messages.ToIpa.{ToIpa}
 use Rattle.esipa_codec.specs.declared.messages.ToIpa.TheVariants as to_ipa
 use Rattle.package_codec.specs.Spelling.{signed}
 use Rattle.eim_queue.specs.Records.{AreRecords}
-use Rattle.eim_queue.specs.Queues.{Queue, IsEim, IfServed, kept_order, used_counters, settled}
+use Rattle.eim_queue.specs.Orders.{order_key, used_counters, settled}
+use Rattle.eim_queue.specs.Queues.{Queue, IsEim, IfServed, kept_order}
 use Rattle.eim_queue.specs.declared.orders.Order.{Order}
-use Rattle.eim_queue.proofs.Counting.{counters}
 use Rattle.eim_queue.proofs.Keeping.{nowhere}
+use Rattle.eim_queue.proofs.Following.{same_used, settled_keys, given_up_keys}
 
 no_records : AreRecords [] []
 unfolding keys
@@ -42,6 +43,9 @@ new_stands id eid os rs o r = record {
   records_are = subst (λ (xs : List PackageResult). AreRecords xs []) (sym r) no_records;
   refusal_is = refl;
 }
+
+abbrev counters : List Order → List ℕ
+counters os = map (λ o. o.signed.«package».counter) os
 
 -- the counters of the orders as the queue keeps them
 on_test : (b : Bool) (k : Order) (o : Ordered) (ks : List Order) (os : List Ordered) → k.signed.«package».counter ≡ o.counter → counters ks ≡ map (λ (x : Ordered). x.counter) os
@@ -352,3 +356,35 @@ served_all answer.NoMemory P p = tt
 pub settled_fit : (association counter : ℕ) (os : List Order) → Every (λ o. IsSigned o.signed) os → Every (λ o. IsSigned o.signed) (map (settled association counter) os)
 settled_fit association counter [] h = tt
 settled_fit association counter (o ∷ os) h = (h.0, settled_fit association counter os h.1)
+
+given_up_fit : (at : ℕ) (os : List Order) (o : Order) → IsSigned o.signed → Every (λ x. IsSigned x.signed) os → Every (λ x. IsSigned x.signed) (set os at o)
+given_up_fit at [] o f h = tt
+given_up_fit zero (x ∷ os) o f h = (f, h.1)
+given_up_fit (suc at) (x ∷ os) o f h = (h.0, given_up_fit at os o f h.1)
+
+pub fits_at : (os : List Order) (at : ℕ) (d : Order) → at < length os → Every (λ o. IsSigned o.signed) os → IsSigned (get_or os at d).signed
+fits_at [] at d l h = absurd (omega (arith, l))
+fits_at (o ∷ os) zero d l h = h.0
+fits_at (o ∷ os) (suc at) d l h = fits_at os at d (omega (arith, l)) h.1
+
+-- what a queue keeps true of its orders
+abbrev pub AreInOrder : Option Binding → List Order → Type 0
+AreInOrder b os = Every (λ o. IsSigned o.signed) os × IfSome b (λ b. greatest (used_counters b.association os) ≤ b.last)
+
+same_keys : (b : Option Binding) (os ps : List Order) → map order_key os ≡ map order_key ps → IfSome b (λ b. greatest (used_counters b.association os) ≤ b.last) → IfSome b (λ b. greatest (used_counters b.association ps) ≤ b.last)
+same_keys None os ps e h = h
+same_keys (Some b) os ps e h = subst (λ n. n ≤ b.last) (ap greatest (same_used b.association os ps e)) h
+
+pub settled_in_order : (association counter : ℕ) (b : Option Binding) (os ps : List Order) → ps ≡ map (settled association counter) os → AreInOrder b os → AreInOrder b ps
+settled_in_order association counter b os ps e h =
+    subst (AreInOrder b) (sym e) (settled_fit association counter os h.0, same_keys b os (map (settled association counter) os) (sym (settled_keys association counter os)) h.1)
+
+pub given_up_in_order : (at : ℕ) (b : Option Binding) (os ps : List Order) (o : Order) → at < length os → get_or os at o ≡ o → ps ≡ set os at (record o { waits = false }) → AreInOrder b os → AreInOrder b ps
+given_up_in_order at b os ps o l is e h =
+    let up : Order = record o { waits = false } in
+    let fit : IsSigned o.signed = subst (λ (x : Order). IsSigned x.signed) is (fits_at os at o l h.0) in
+    subst (AreInOrder b) (sym e) (given_up_fit at os up fit h.0, same_keys b os (set os at up) (sym (given_up_keys at os up o (ap order_key (sym is)))) h.1)
+
+-- the counter that the queue goes on behind
+pub behind_orders : (o : Option Binding) (b : Binding) (os : List Order) → o ≡ Some b → IfSome o (λ b. greatest (used_counters b.association os) ≤ b.last) → greatest (used_counters b.association os) ≤ b.last
+behind_orders o b os e h = subst (λ (x : Option Binding). IfSome x (λ b. greatest (used_counters b.association os) ≤ b.last)) e h

@@ -1,6 +1,6 @@
 -- What a queue in code keeps, and which eIM it stands for.
-use Rattle.std.specs.Prelude.{◌≡◌, ◌≤◌, ℕ, ◌==◌, ◌&&◌, not, max, if◌then◌else◌, List, length, map, filter, IfSome, Option}
-use Rattle.small_card.specs.Lists.{Every}
+use Rattle.std.specs.Prelude.{◌≡◌, ◌≤◌, ℕ, List, length, map, IfSome, Option}
+use Rattle.small_card.specs.Lists.{Every, greatest}
 use Rattle.small_card.specs.Ranges.{IsSigned, IsNumber, greatest_counter}
 use Rattle.small_card.specs.declared.types.PackageResult.{PackageResult}
 use Rattle.small_card.specs.declared.types.Refused.{Refused}
@@ -12,6 +12,7 @@ use Rattle.esipa_codec.specs.declared.ends.MessageEnd.{MessageEnd}
 use Rattle.esipa_codec.specs.declared.ends.MessageEnd.TheVariants.{Reply, Silent, NoMemory}
 use Rattle.esipa_codec.specs.Ranges.{IsToIpa}
 use Rattle.esipa_codec.specs.Spelling.{to_ipa}
+use Rattle.eim_queue.specs.Orders.{used_counters}
 use Rattle.eim_queue.specs.Records.{AreRecords}
 use Rattle.eim_queue.specs.declared.orders.Order.{Order}
 use Rattle.eim_queue.specs.declared.queue.Eim.TheInside.{Inside}
@@ -26,16 +27,18 @@ pub record Queue : Type 0 where
   pub refusal : Option Refused
 
 abbrev pub queue_of : Inside → Queue
-queue_of q = record { id = q.id; eid = q.eid; bound = q.bound; orders = q.orders.items; records = q.records; refusal = q.refusal }
+queue_of q = record { id = q.id; eid = q.eid; bound = q.bound; orders = q.orders; records = q.records; refusal = q.refusal }
 
 -- Numbers of the binding are in range.
 abbrev pub IsBinding : Binding → Type 0
 IsBinding b = IsNumber b.association × (b.last ≤ greatest_counter)
 
--- The packages and what the queue is bound to are in range.
+-- The packages and what the queue is bound to are in range, and counters go on behind those of the
+-- orders.
 pub record IsQueue (q : Inside) : Type 0 where
-  pub orders_fit : Every (λ o. IsSigned o.signed) q.orders.items
+  pub orders_fit : Every (λ o. IsSigned o.signed) q.orders
   pub bound_fits : IfSome q.bound IsBinding
+  pub goes_on : IfSome q.bound (λ b. greatest (used_counters b.association q.orders) ≤ b.last)
 
 -- The order as the queue keeps it: its package, and whether it waits.
 abbrev pub kept_order : List ℕ → List ℕ → List PackageResult → Ordered → Order
@@ -61,22 +64,6 @@ abbrev pub IfServed : MessageEnd → Type 0 → Type 0
 IfServed (Reply m) P = P
 IfServed Silent P = P
 IfServed NoMemory P = Unit {0}
-
--- The counters of the packages of an association.
-unfoldable pub used_counters : ℕ → List Order → List ℕ
-used_counters association orders =
-    map (λ o. o.signed.«package».counter) (filter (λ o. o.signed.«package».association == association) orders)
-
--- An order whose result was heard of doesn't wait.
-abbrev pub settled : ℕ → ℕ → Order → Order
-settled association counter o = record o {
-  waits = o.waits && not (association == o.signed.«package».association && counter == o.signed.«package».counter);
-}
-
--- The greatest counter so far and that of one more order of an association.
-unfoldable pub greatest_with : ℕ → ℕ → Order → ℕ
-greatest_with so_far association o =
-    if o.signed.«package».association == association then max so_far o.signed.«package».counter else so_far
 
 -- a message to the assistant, if there is one, is in range; it has at most 3,489 octets
 abbrev pub IsSendable : MessageEnd → Type 0

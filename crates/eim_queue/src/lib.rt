@@ -4,6 +4,7 @@
 #![tactic(auto)]
 
 mod orders;
+mod places;
 mod queue;
 mod records;
 

@@ -1,4 +1,4 @@
-ghost use Rattle.std.specs.Prelude.{◌≡◌, ◌≤◌, ◌-◌, length, Some, false};
+ghost use Rattle.std.specs.Prelude.{◌≡◌, ◌≤◌, ◌-◌, length, position, Some, false};
 ghost use Rattle.std.specs.List.{AllPass};
 ghost use Rattle.sgp_values.specs.Ranges.{is_octet};
 ghost use Rattle.small_card.specs.Lists.{same};
@@ -13,8 +13,8 @@ ghost use Rattle.esipa_codec.specs.Ranges.{IsToEim};
 ghost use Rattle.package_codec.specs.Spelling.{signed};
 ghost use Rattle.eim_queue.specs.Queues.{IfOrdered, IfServed, IsEim, IsSendable};
 
-use crate::orders::{Order, first_waiting, give_up, greatest_used, push_order, settle};
-use crate::records::{is_known, receive};
+use crate::orders::{Order, Orders};
+use crate::records::Records;
 use esipa_codec::{BindEnd, Binding, MessageEnd, OrderEnd, ToEim, ToIpa};
 use iot_bytes::{NoMemory, Row};
 use package_codec::write_signed;
@@ -30,8 +30,8 @@ pub struct Eim {
     id: EimId,
     eid: Eid,
     bound: Option<Binding>,
-    orders: Vec<Order>,
-    records: Row<PackageResult>,
+    orders: Orders,
+    records: Records,
     refusal: Option<Refused>,
 }
 
@@ -54,8 +54,8 @@ impl Eim {
             id,
             eid,
             bound: None,
-            orders: Vec::new(alloc),
-            records: Row::new(alloc),
+            orders: Orders::new(alloc),
+            records: Records::new(alloc),
             refusal: None,
         }
     }
@@ -69,7 +69,7 @@ impl Eim {
         ensures stands { (e : EimState) → IsEim self.old e
             → IsEim self.new (bound_to association last e) }
     {
-        let used = greatest_used(&self.orders, association);
+        let used = self.orders.greatest_used(association);
         if last < used {
             return BindEnd::Low(used);
         }
@@ -110,9 +110,9 @@ impl Eim {
         let counter = bound.last + 1;
         let order = Order {
             signed: self.package(alloc, bound.association, counter, body),
-            waits: !is_known(self.records.as_slice(), bound.association, counter),
+            waits: !self.records.is_known(bound.association, counter),
         };
-        match push_order(&mut self.orders, order) {
+        match self.orders.push(order) {
             Ok(()) => {
                 self.bound = Some(Binding {
                     last: counter,
@@ -146,8 +146,8 @@ impl Eim {
         ensures end { (e : EimState) → IsEim self.old e → result ≡ skip_end e }
         ensures stands { (e : EimState) → IsEim self.old e → IsEim self.new (skipped e) }
     {
-        match first_waiting(&self.orders) {
-            Some(at) => Some(give_up(&mut self.orders[at])),
+        match self.orders.first_waiting() {
+            Some(at) => Some(self.orders.give_up(at)),
             None => None,
         }
     }
@@ -173,7 +173,27 @@ impl Eim {
     }
 
     /// A poll for this card fetches the package of the first order that waits.
-    fn on_poll(&self, alloc: Global, eid: &Eid) -> MessageEnd
+    fn on_poll(&mut self, alloc: Global, eid: &Eid) -> MessageEnd
+        ensures end { (e : EimState) → IsEim self.old e
+            → IfServed result (result ≡ message_end (to_eim.Poll eid.now) e) }
+        ensures same { self.new ≡ self.old }
+        ensures range { IsSendable result }
+    {
+        let first = self.first_waiting();
+        self.fetched(alloc, eid, first)
+    }
+
+    /// The place of the first order that waits.
+    fn first_waiting(&mut self) -> Option<usize>
+        ensures place { result ≡ position (λ o. o.waits) self.old.orders }
+        ensures same { self.new ≡ self.old }
+    {
+        self.orders.first_waiting()
+    }
+
+    /// The answer to a poll, where the first order that waits is known.
+    fn fetched(&self, alloc: Global, eid: &Eid, first: Option<usize>) -> MessageEnd
+        requires { first ≡ position (λ o. o.waits) self.now.orders }
         ensures end { (e : EimState) → IsEim self.now e
             → IfServed result (result ≡ message_end (to_eim.Poll eid.now) e) }
         ensures range { IsSendable result }
@@ -181,8 +201,8 @@ impl Eim {
         if !is_same_card(eid, &self.eid) {
             return MessageEnd::Reply(ToIpa::Nothing);
         }
-        match first_waiting(&self.orders) {
-            Some(at) => spelled(alloc, &self.orders[at].signed),
+        match first {
+            Some(at) => spelled(alloc, &self.orders.as_slice()[at].signed),
             None => MessageEnd::Reply(ToIpa::Nothing),
         }
     }
@@ -200,9 +220,9 @@ impl Eim {
             return MessageEnd::Silent;
         }
         let (seq, association, counter) = (item.seq, item.association, item.counter);
-        match receive(&mut self.records, item) {
+        match self.records.receive(item) {
             Ok(()) => {
-                settle(&mut self.orders, association, counter);
+                self.orders.settle(association, counter);
                 MessageEnd::Reply(ToIpa::Ack { seq })
             }
             Err(NoMemory) => MessageEnd::NoMemory,

@@ -12,8 +12,8 @@ returns-in-Result-clause-range c = λ fits. c.on_result.ensures.range (subst IsT
 
 pub returns-in-Poll-clause-stands : goal.returns-in-Poll-clause-stands
 returns-in-Poll-clause-stands c = λ e h.
-    subst (λ (m : ToEim). IfServed c.on_poll.result (IsEim c.args.self.now (heard m e))) (sym c.in-Poll.is)
-    (served_all c.on_poll.result _ (poll_heard c.in-Poll.eid c.args.self.now e h))
+    subst (λ (m : ToEim). IfServed c.on_poll.result (IsEim c.on_poll.new.self (heard m e))) (sym c.in-Poll.is)
+    (served_all c.on_poll.result _ (poll_heard c.in-Poll.eid c.on_poll.new.self e (subst (λ (q : Queue). IsEim q e) (sym c.on_poll.ensures.same) h)))
 
 pub returns-in-Refused-clause-end : goal.returns-in-Refused-clause-end
 returns-in-Refused-clause-end c = λ e h. refusal_end c.in-Refused.refused e ∙ ap (λ (m : ToEim). message_end m e) (sym c.in-Refused.is)

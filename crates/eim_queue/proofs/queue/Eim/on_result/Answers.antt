@@ -1,9 +1,7 @@
-use Rattle.std.proofs.Common.{◌∙◌, ap, sym, subst, List}
-use Rattle.small_card.specs.Lists.{same, Every}
-use Rattle.small_card.specs.Ranges.{IsSigned}
-use Rattle.eim_queue.specs.declared.orders.Order.{Order}
+use Rattle.std.proofs.Common.{◌∙◌, ap, sym, subst}
+use Rattle.small_card.specs.Lists.{same}
 use Rattle.eim_queue.specs.Queues.{Queue, IsEim, queue_of}
-use Rattle.eim_queue.proofs.Standing.{other_result, other_heard, own_result, own_heard, settled_fit}
+use Rattle.eim_queue.proofs.Standing.{other_result, other_heard, own_result, own_heard, settled_in_order}
 use Rattle.eim_queue.proofs.Sending.{ack_sendable}
 use Rattle.eim_queue.proofs.queue.Eim.on_result.Goals as goal
 
@@ -28,7 +26,7 @@ returns-in-Ok-clause-stands c = λ e h.
     own_heard c.args.item (queue_of c.self.inside) e _ _ k (sym c.is_same_eim.ensures ∙ c.if-not-is_same_eim.false) (c.in-Ok.ensures.ok e.received k.records_are) c.settle.ensures
 
 pub invariant_of-self : goal.invariant_of-self
-invariant_of-self c = record {
-  orders_fit = subst (λ (os : List Order). Every (λ o. IsSigned o.signed) os) (sym c.settle.ensures) (settled_fit c.args.item.association c.args.item.counter c.self.inside.orders.items c.self.invariant.orders_fit);
-  bound_fits = c.self.invariant.bound_fits;
-}
+invariant_of-self c =
+    let q = c.self.inside in
+    let kept = settled_in_order c.args.item.association c.args.item.counter q.bound q.orders c.settle.new.self c.settle.ensures (c.self.invariant.orders_fit, c.self.invariant.goes_on) in
+    record { orders_fit = kept.0; bound_fits = c.self.invariant.bound_fits; goes_on = kept.1 }

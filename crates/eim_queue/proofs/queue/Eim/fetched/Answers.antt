@@ -1,10 +1,10 @@
-use Rattle.std.proofs.Common.{◌∙◌, ap, sym, subst, List}
+use Rattle.std.proofs.Common.{◌∙◌, ap, sym, subst, get_or, List}
 use Rattle.std.specs.Prelude.{position}
 use Rattle.eim_queue.specs.Queues.{Queue, IsEim, queue_of}
 use Rattle.eim_queue.specs.declared.orders.Order.{Order}
 use Rattle.eim_queue.proofs.Standing.{other_poll, empty_poll, served_poll, served_then, found_order}
 use Rattle.eim_queue.proofs.Sending.{nothing_sendable}
-use Rattle.eim_queue.proofs.queue.Eim.on_poll.Goals as goal
+use Rattle.eim_queue.proofs.queue.Eim.fetched.Goals as goal
 
 pub returns-then-not-is_same_card-clause-range : goal.returns-then-not-is_same_card-clause-range
 returns-then-not-is_same_card-clause-range c = nothing_sendable
@@ -20,11 +20,14 @@ pub returns-in-Some-clause-end : goal.returns-in-Some-clause-end
 returns-in-Some-clause-end c = λ e h.
     let q : Queue = queue_of c.self.inside in
     let k = subst (λ (q : Queue). IsEim q e) (sym c.self.view_is) h in
-    let p = ap (λ (os : List Order). position (λ (o : Order). o.waits) os) (sym c.deref.ensures.value) ∙ sym c.first_waiting.ensures ∙ c.in-Some.is in
-    served_then c.spelled.result _ _ (served_poll c.args.eid.now q e c.in-Some.at c.index.result.now k (sym c.is_same_card.ensures ∙ c.if-not-is_same_card.false) (found_order q e c.in-Some.at c.index.result.now k p c.index.ensures)) c.spelled.ensures.end
+    let p = ap (λ (q : Queue). position (λ (o : Order). o.waits) q.orders) c.self.view_is ∙ sym c.requires ∙ c.in-Some.is in
+    let seen = c.as_slice.result.now in
+    let o : Order = get_or seen c.in-Some.at c.index-as_slice-at.result in
+    let is = ap (λ (x : Order). get_or seen c.in-Some.at x) c.index-as_slice-at.is ∙ ap (λ (os : List Order). get_or os c.in-Some.at o) c.as_slice.ensures in
+    served_then c.spelled.result _ _ (served_poll c.args.eid.now q e c.in-Some.at o k (sym c.is_same_card.ensures ∙ c.if-not-is_same_card.false) (found_order q e c.in-Some.at o k p is)) c.spelled.ensures.end
 
 pub returns-in-None-clause-end : goal.returns-in-None-clause-end
 returns-in-None-clause-end c = λ e h.
     let k = subst (λ (q : Queue). IsEim q e) (sym c.self.view_is) h in
-    let p = ap (λ (os : List Order). position (λ (o : Order). o.waits) os) (sym c.deref.ensures.value) ∙ sym c.first_waiting.ensures ∙ c.in-None.is in
+    let p = ap (λ (q : Queue). position (λ (o : Order). o.waits) q.orders) c.self.view_is ∙ sym c.requires ∙ c.in-None.is in
     empty_poll c.args.eid.now (queue_of c.self.inside) e k (sym c.is_same_card.ensures ∙ c.if-not-is_same_card.false) p
