@@ -3,3 +3,4 @@ pub mod Steps
 pub mod Closing
 pub mod Openings
 pub mod Laws
+pub mod Settling

@@ -1,6 +1,6 @@
 //! The card.
 
-ghost use Rattle.std.specs.Prelude.{◌≡◌, ◌↔◌, None, Some, IfOk, MatchOption, IfSome};
+ghost use Rattle.std.specs.Prelude.{◌≡◌, ◌≤◌, ◌↔◌, None, Some, IfOk, MatchOption, IfSome};
 ghost use Rattle.chip_port.specs.Rules.{IfTold};
 ghost use Rattle.small_card.specs.Fresh.{fresh};
 ghost use Rattle.small_card.specs.Ranges.{IsCommand};
@@ -10,12 +10,14 @@ ghost use Rattle.card_store.specs.Looking.{HasCauseOf};
 ghost use Rattle.euicc_core.specs.Steps.{IsLitOn, Steps, HasCauseOfStep, ChipSteps, IsInRange};
 ghost use Rattle.euicc_core.specs.Closing.{IsNewValid, end_of, held_after};
 ghost use Rattle.euicc_core.specs.Openings.{Opens, Personalises, of_load};
+ghost use Rattle.euicc_core.specs.Settling.{IfLit, HasCauseOfSettle, Costs, Cycles, Recognises};
+ghost use Rattle.euicc_core.specs.Settling.{StandsForSome, Returns};
 
 use crate::answering::carry_out;
-use crate::ends::{OpenError, StepEnd};
+use crate::ends::{OpenError, SettleEnd, StepEnd};
 use card_steps::Turn;
 use card_store::{Card, LoadEnd, MakeError, StageError, format, load};
-use chip_port::Chip;
+use chip_port::{Bench, Chip};
 use profile_table::Table;
 use sgp_values::Eid;
 use small_card::Command;
@@ -101,6 +103,56 @@ impl EuiccCard {
                 Err(_failed) => Err(OpenError::Failed),
             },
             Err(end) => Err(of_load(end)),
+        }
+    }
+
+    /// Gives a bench its power back and powers the card up. After a fault it tries again, with a
+    /// new power cycle, so many times in all.
+    ///
+    /// It may begin on a chip that is cut, and under a plan.
+    pub fn settle<B: Bench>(alloc: Global, bench: &mut B, tries: u32) -> SettleEnd
+        requires { 1 ≤ tries }
+        ensures cause { HasCauseOfSettle tries result (B.sees bench.old) (B.sees bench.new) }
+        ensures lit { IfLit result (λ card. MatchOption card ⊥ (λ parts. IsValid parts)) }
+        ensures settled { IfLit result
+            (λ card. IfTold (B.sees bench.new) (IsLitOn card (B.sees bench.new))) }
+        ensures cost { IfTold (B.sees bench.old)
+            (Costs tries result (B.sees bench.old).tally (B.sees bench.new).tally) }
+        ensures cycles { IfTold (B.sees bench.old)
+            (Cycles tries result (B.sees bench.old) (B.sees bench.new)) }
+        ensures recognised { IfTold (B.sees bench.old)
+            (Recognises result (B.sees bench.old) (B.sees bench.new)) }
+        ensures returned { IfTold (B.sees bench.old) (StandsForSome (B.sees bench.old)
+            → Returns result (B.sees bench.old) (B.sees bench.new)) }
+    {
+        for _done in 0..tries {
+            match EuiccCard::power_cycle(alloc, bench) {
+                SettleEnd::Spent => {}
+                end => return end,
+            }
+        }
+        SettleEnd::Spent
+    }
+
+    // One try: a power cycle, and the answer to reset.
+    fn power_cycle<B: Bench>(alloc: Global, bench: &mut B) -> SettleEnd
+        ensures cause { HasCauseOfSettle 1 result (B.sees bench.old) (B.sees bench.new) }
+        ensures lit { IfLit result (λ card. MatchOption card ⊥ (λ parts. IsValid parts)) }
+        ensures settled { IfLit result
+            (λ card. IfTold (B.sees bench.new) (IsLitOn card (B.sees bench.new))) }
+        ensures cost { IfTold (B.sees bench.old)
+            (Costs 1 result (B.sees bench.old).tally (B.sees bench.new).tally) }
+        ensures cycles { IfTold (B.sees bench.old)
+            (Cycles 1 result (B.sees bench.old) (B.sees bench.new)) }
+    {
+        match bench.power_on() {
+            Ok(()) => match EuiccCard::power_up(alloc, bench) {
+                Ok(card) => SettleEnd::Lit(card),
+                Err(OpenError::Failed) => SettleEnd::Spent,
+                Err(OpenError::Unrecognised) => SettleEnd::Unrecognised,
+                Err(OpenError::NoMemory) => SettleEnd::NoMemory,
+            },
+            Err(_failed) => SettleEnd::Spent,
         }
     }
 

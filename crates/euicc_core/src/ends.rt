@@ -1,5 +1,6 @@
 //! How the calls end.
 
+use crate::card::EuiccCard;
 use small_card::Answer;
 
 /// How a step ends.
@@ -21,6 +22,19 @@ pub enum OpenError {
     /// A call of the chip failed.
     Failed,
     /// The chip stands for no card.
+    Unrecognised,
+    /// Memory ran out, and the chip still stands for its card.
+    NoMemory,
+}
+
+/// How settling ends.
+#[derive(Debug, Drop)]
+pub enum SettleEnd {
+    /// The card is lit, and answered to reset.
+    Lit(EuiccCard),
+    /// Each try ended by a fault of the chip.
+    Spent,
+    /// What the last power cycle gave stands for no card.
     Unrecognised,
     /// Memory ran out, and the chip still stands for its card.
     NoMemory,

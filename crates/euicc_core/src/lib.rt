@@ -12,7 +12,7 @@ mod laws;
 
 pub use card::EuiccCard;
 pub use card_store::{Card, MakeError};
-pub use ends::{OpenError, StepEnd};
+pub use ends::{OpenError, SettleEnd, StepEnd};
 pub use laws::{looks_are_held, openings_are_held, steps_are_held};
 
 #[cfg(test)]

@@ -15,6 +15,7 @@ use std::alloc::Global;
 use std::test::Fail;
 
 mod cuts;
+mod settling;
 mod worked_image;
 
 const EID: [u8; 16] = [0, 1, 2, 3, 4, 5, 6, 7, 8, 9, 10, 11, 12, 13, 14, 15];
