@@ -295,6 +295,74 @@ fn sinks_that_fail(rt: HostRuntime) -> Result<(), Fail> {
     Ok(())
 }
 
+/// What is sent for the worked schedule's first lines, of which the fourth is cut: two fronts of it
+/// are lines themselves, where the key is empty or has one octet.
+fn sent_of(front: usize) -> (u8, &'static str) {
+    match front {
+        32 | 34 => (0, "device 3\neim ok\neim ok\nassociated 1\n"),
+        _ => (5, "device 3\neim ok\neim ok\nstopped 5 4\n"),
+    }
+}
+
+/// The fourth line has 36 octets. The schedule ends behind each of them but the last.
+#[test]
+fn a_line_cut_after_each_octet(rt: HostRuntime) -> Result<(), Fail> {
+    let alloc = rt.alloc();
+    for front in 1..36 {
+        let mut input = Row::new(alloc);
+        input.append(first_lines(WORKED.as_bytes(), 3))?;
+        input.append(&b"initial e1 @coaps://e1.example #04aa"[..front])?;
+        let schedule = String::from_utf8_lossy(alloc, input.as_slice())?;
+        let (status, sent) = sent_of(front);
+        assert!(rt;
+            gives(alloc, schedule.as_str(), &WHOLE, status, sent.as_bytes())?,
+            "cut after {front}"
+        );
+    }
+    Ok(())
+}
+
+/// What is printed for a package that comes twice, with a boot between: the card was cut before the
+/// unit counted, or as it did, or wasn't cut.
+const TWICE: [&str; 3] = [
+    "lost\nbooted\nloaded 1 enable=0\nsent 1\nreply 1 ack 1\n",
+    "lost\nbooted\nrefused 6 kept 1 received 1 sent 1\nsent 2\nreply 1 ack 1\n",
+    "loaded 1 enable=0\nbooted\nrefused 6 kept 1 received 1 sent 1\nsent 2\nreply 1 ack 1\n",
+];
+
+/// The step of the package makes 61 calls. A half of what the gate's closing writes is nothing, so
+/// behind it the unit counts.
+fn came_of(call: u32) -> &'static str {
+    match call {
+        0..=58 => TWICE[0],
+        59 | 60 => TWICE[1],
+        _ => TWICE[2],
+    }
+}
+
+/// Whether a package that is cut at this call is carried out once, and its result is kept.
+fn is_kept(alloc: Global, call: u32) -> Result<bool, Fail> {
+    let schedule = format!(in alloc;
+        "{DEVICE}eim e1\ninitial e1 @ #\nbind e1 1 0\norder e1 enable:98440000000000000001\n\
+        poll e1\nup 0\ncut {call} half\ndown 0\nboot\ndown 0\npush\nup last\nkept e1\n"
+    )?;
+    let trace = format!(in alloc;
+        "device 3\neim ok\nassociated 1\nbound\nordered 1\nsent 0\nreply 0 package\nplanned\n\
+        {}kept 1/1/1\n",
+        came_of(call)
+    )?;
+    gives(alloc, schedule.as_str(), &WHOLE, 0, trace.as_bytes())
+}
+
+/// The step of a package is cut at each of its calls, until it isn't lost.
+#[test]
+fn a_package_cut_at_each_call(rt: HostRuntime) -> Result<(), Fail> {
+    for call in 0..=61 {
+        assert!(rt; is_kept(rt.alloc(), call)?, "at call {call}");
+    }
+    Ok(())
+}
+
 /// The status of a demonstration over a new chip, whose first calls may fail, and what was sent.
 fn demonstrated(
     alloc: Global,

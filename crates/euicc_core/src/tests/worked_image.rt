@@ -66,7 +66,7 @@ fn home_is<C: Chip>(chip: &mut C, home: &[u8]) -> Result<bool, Fail> {
 #[test]
 fn the_image_of_a_worked_card(rt: HostRuntime) -> Result<(), Fail> {
     let alloc = rt.alloc();
-    let mut chip = chip_after(alloc, &[Kind::Initial, Kind::Load])?;
+    let mut chip = chip_after(alloc, &[Kind::Initial, Kind::Arm])?;
     let (mut magic, mut gate, mut directory) = ([0; 8], [9], [0; 10]);
     chip.read(0, &mut magic).map_err(|_| "magic")?;
     chip.read(GATE, &mut gate).map_err(|_| "gate")?;

@@ -36,18 +36,81 @@ fn boxed_modems_told(rt: HostRuntime) -> Result<(), Fail> {
     modems.push(Box::new(alloc, SplitModem::new())?)?;
     let mut world = World::start(alloc, device, &mut chip, &mut modems)?;
     let mut out = Row::new(alloc);
-    step_line(alloc, &mut world, "eim e1", &mut chip, &mut modems, &mut out)?;
-    step_line(alloc, &mut world, "initial e1 @ #", &mut chip, &mut modems, &mut out)?;
-    step_line(alloc, &mut world, "bind e1 1 0", &mut chip, &mut modems, &mut out)?;
+    step_line(
+        alloc,
+        &mut world,
+        "eim e1",
+        &mut chip,
+        &mut modems,
+        &mut out,
+    )?;
+    step_line(
+        alloc,
+        &mut world,
+        "initial e1 @ #",
+        &mut chip,
+        &mut modems,
+        &mut out,
+    )?;
+    step_line(
+        alloc,
+        &mut world,
+        "bind e1 1 0",
+        &mut chip,
+        &mut modems,
+        &mut out,
+    )?;
     let order = "order e1 enable:98440000000000000002";
     step_line(alloc, &mut world, order, &mut chip, &mut modems, &mut out)?;
-    step_line(alloc, &mut world, "poll e1", &mut chip, &mut modems, &mut out)?;
+    step_line(
+        alloc,
+        &mut world,
+        "poll e1",
+        &mut chip,
+        &mut modems,
+        &mut out,
+    )?;
     step_line(alloc, &mut world, "up 0", &mut chip, &mut modems, &mut out)?;
-    step_line(alloc, &mut world, "down 0", &mut chip, &mut modems, &mut out)?;
-    step_line(alloc, &mut world, "modems", &mut chip, &mut modems, &mut out)?;
-    step_line(alloc, &mut world, "cut 0 old", &mut chip, &mut modems, &mut out)?;
-    step_line(alloc, &mut world, "down 0", &mut chip, &mut modems, &mut out)?;
-    step_line(alloc, &mut world, "detach 0", &mut chip, &mut modems, &mut out)?;
+    step_line(
+        alloc,
+        &mut world,
+        "down 0",
+        &mut chip,
+        &mut modems,
+        &mut out,
+    )?;
+    step_line(
+        alloc,
+        &mut world,
+        "modems",
+        &mut chip,
+        &mut modems,
+        &mut out,
+    )?;
+    step_line(
+        alloc,
+        &mut world,
+        "cut 0 old",
+        &mut chip,
+        &mut modems,
+        &mut out,
+    )?;
+    step_line(
+        alloc,
+        &mut world,
+        "down 0",
+        &mut chip,
+        &mut modems,
+        &mut out,
+    )?;
+    step_line(
+        alloc,
+        &mut world,
+        "detach 0",
+        &mut chip,
+        &mut modems,
+        &mut out,
+    )?;
     let printed = "eim okassociated 1boundordered 1sent 0reply 0 packageloaded 1 enable=0\
         modems 98440000000000000002:1 98440000000000000002:1plannedlostdetached";
     assert!(rt; out.as_slice() == printed.as_bytes());
