@@ -87,8 +87,9 @@ def elements(octets):
 
 
 def fields(content, *wanted):
-    """The values of fields in their order, each a tag and its reader; a third word marks a field that
-    may be missing, which is None then."""
+    """The values of fields in their order, each a tag and its reader.
+
+    A third word marks a field that may be missing, which is None then."""
     found, rest = [], elements(content)
     for tag, read, *optional in wanted:
         if rest and rest[0][0] == tag:
@@ -314,7 +315,8 @@ def signed_part(content):
 
 
 def package(content):
-    signed, signature = fields(content, (0x30, signed_part), (0x86, some_octets(128, "a signature")))
+    of_signature = (0x86, some_octets(128, "a signature"))
+    signed, signature = fields(content, (0x30, signed_part), of_signature)
     return f"{signed}{f' signature {signature}' if signature else ''}"
 
 
