@@ -14,12 +14,15 @@ use file_chip::FileChip;
 use iot_bytes::{NoMemory, Row, StdSink, StdSource};
 use modem_bank::{Modem, PlainModem, SplitModem};
 use run::{FAULTY_WORDS, run};
-use std::env;
 use std::io::{self, BufReader, ErrorKind};
 use std::process::ExitCode;
+use std::{env, fs};
 use words::{Form, form_of_words};
 
 const NO_MEMORY: u8 = 6;
+
+// What can be opened, and neither read nor written.
+const FOLDER: &str = "/";
 
 // The words behind the program's name.
 fn command_line(rt: &HostRuntime) -> io::Result<Vec<String>> {
@@ -53,13 +56,20 @@ fn run_in_memory(rt: &HostRuntime, words: &[String]) -> io::Result<u8> {
     }
 }
 
+// Runs over the card's file. A file that is opened takes the place of a standard stream that is
+// closed, so one that fails each read and write is opened three times before it.
+fn run_in_file(rt: &HostRuntime, words: &[String], path: &str) -> io::Result<u8> {
+    let _input = fs::open(rt, FOLDER);
+    let _output = fs::open(rt, FOLDER);
+    let _errors = fs::open(rt, FOLDER);
+    run_over_streams(rt, words, &mut FileChip::at(rt, path))
+}
+
 // Runs over the file that the words name, or over a chip in memory.
 fn run_words(rt: &HostRuntime) -> io::Result<u8> {
     let words = command_line(rt)?;
     match (form_of_words(&words), words.as_slice()) {
-        (Some(Form::Card), [_, path]) => {
-            run_over_streams(rt, &words, &mut FileChip::at(rt, path.as_str()))
-        }
+        (Some(Form::Card), [_, path]) => run_in_file(rt, &words, path.as_str()),
         _ => run_in_memory(rt, &words),
     }
 }
