@@ -23,7 +23,7 @@ fn before(kind: Kind) -> &'static [Kind] {
     }
 }
 
-/// How many calls the chip has had as the step begins: a plan of so many is cut sooner by them.
+/// How many calls the chip has had as the step begins: so many fewer pass until a planned cut.
 fn calls_before(alloc: Global, kind: Kind) -> Result<u64, Fail> {
     let many = 10 * MANY;
     let mut chip = MemChip::new(alloc, Row::new(alloc))?;
@@ -57,7 +57,9 @@ fn failed(alloc: Global, kind: Kind, call: u64) -> Result<(bool, EuiccCard), Fai
     make(alloc, &mut chip, before(kind))?;
     let mut card = powered_up(alloc, &mut chip)?;
     let answered = unit(alloc, &mut card, &mut chip, kind)?;
-    Ok((answered, settled(alloc, &mut chip, 1)?))
+    // Behind a step that is answered this call is one of the first try.
+    let tries = if answered { 2 } else { 1 };
+    Ok((answered, settled(alloc, &mut chip, tries)?))
 }
 
 /// A unit of a card: the card before it and after it, and the calls of the chip before its step.
