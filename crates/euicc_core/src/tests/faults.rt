@@ -58,8 +58,12 @@ fn failed(alloc: Global, kind: Kind, call: u64) -> Result<(bool, EuiccCard), Fai
     let mut card = powered_up(alloc, &mut chip)?;
     let answered = unit(alloc, &mut card, &mut chip, kind)?;
     // Behind a step that is answered this call is one of the first try.
-    let tries = if answered { 2 } else { 1 };
-    Ok((answered, settled(alloc, &mut chip, tries)?))
+    let card = if answered {
+        settled(alloc, &mut chip, 2)?
+    } else {
+        settled(alloc, &mut chip, 1)?
+    };
+    Ok((answered, card))
 }
 
 /// A unit of a card: the card before it and after it, and the calls of the chip before its step.
