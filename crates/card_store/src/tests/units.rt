@@ -162,17 +162,12 @@ fn numbers_on<C: Chip>(chip: &mut C) -> Result<[u8; 8], Fail> {
 }
 
 /// The slots before, the results after, and the slots that they are to stand in.
-const SLOTS: [([u8; 8], [u8; 8], [u8; 8]); 7] = [
-    // One comes, into the slot of one that was removed before, and into the lowest of two.
+const SLOTS: [([u8; 8], [u8; 8], [u8; 8]); 6] = [
+    // One comes, into the slot of one that was removed before.
     (
         [0, 2, 0, 0, 0, 0, 0, 0],
         [2, 3, 0, 0, 0, 0, 0, 0],
         [3, 2, 0, 0, 0, 0, 0, 0],
-    ),
-    (
-        [0, 2, 0, 1, 0, 0, 0, 0],
-        [1, 2, 3, 0, 0, 0, 0, 0],
-        [3, 2, 0, 1, 0, 0, 0, 0],
     ),
     // One leaves.
     (
