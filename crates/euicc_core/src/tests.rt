@@ -1,7 +1,7 @@
 //! What no clause says: that calls succeed where there is enough memory, what steps that are cut
 //! leave, and which octets a card has.
 
-ghost use Rattle.std.specs.Prelude.{IfOk};
+ghost use Rattle.std.specs.Prelude.{◌≤◌, IfOk};
 ghost use Rattle.chip_port.specs.Rules.{IfTold};
 ghost use Rattle.euicc_core.specs.Steps.{IsLitOn};
 
