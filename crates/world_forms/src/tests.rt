@@ -4,8 +4,6 @@ ghost use Rattle.std.specs.Prelude.{◌≡◌, ◌<◌, ◌≤◌, ◌^◌, ◌+
 ghost use Rattle.modem_bank.specs.Modems.{told_one};
 ghost use Rattle.small_world.specs.Texts.{modem_entry};
 
-mod boxed;
-
 use super::*;
 use chip_port::MemChip;
 use iot_bytes::{MemSink, MemSource, NoMemory, Row};
