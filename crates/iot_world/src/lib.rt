@@ -13,6 +13,8 @@ mod modem_lines;
 mod quiet_lines;
 mod show_line;
 mod stepping;
+#[cfg(test)]
+mod tests;
 mod world;
 
 pub use ends::Halt;
