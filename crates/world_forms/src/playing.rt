@@ -75,10 +75,7 @@ fn begin_play<B: Bench, T, F: Fn(&mut T, &Option<Iccid>) + Copy>(
         (B.sees bench.new) (map view modems.new.items)) }
 {
     let mut maker = Maker::new(start);
-    let line = match make_line(alloc, &mut maker, 1) {
-        Ok(line) => line,
-        Err(stop) => return Err(stop),
-    };
+    let line = make_line(alloc, &mut maker, 1)?;
     let mut out = Row::new(alloc);
     match begin(alloc, line.as_slice(), bench, modems, tell, &mut out) {
         Ok(world) => {
@@ -127,10 +124,7 @@ fn play_line<
         → Plays play.new handed_in start count result (B.sees first) (B.sees bench.new)
         (map view modems.new.items) }
 {
-    let line = match make_line(alloc, &mut play.maker, number) {
-        Ok(line) => line,
-        Err(stop) => return Err(stop),
-    };
+    let line = make_line(alloc, &mut play.maker, number)?;
     let mut out = Row::new(alloc);
     let text = line.as_slice();
     match go_on(
