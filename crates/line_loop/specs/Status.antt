@@ -1,5 +1,7 @@
 -- The exit statuses of runs over lines.
 use Rattle.std.specs.Prelude.{ℕ, Bool, true, false, Result, Ok, Err}
+use Rattle.iot_bytes.specs.declared.memory.ReadError.{ReadError}
+use Rattle.iot_bytes.specs.declared.memory.ReadError.TheVariants as read
 use Rattle.run_loop.specs.declared.halt.SendStop.{SendStop}
 use Rattle.run_loop.specs.declared.halt.SendStop.TheVariants as sending
 use Rattle.line_loop.specs.declared.halt.NoLine.{NoLine}
@@ -17,6 +19,11 @@ read_status reading.End = 0
 read_status reading.Fault = 2
 read_status reading.NoMemory = 6
 read_status reading.Limit = 7
+
+-- Why a line isn't handled that can't be read.
+abbrev pub of_read : ReadError → LineStop
+of_read read.Malformed = handling.Malformed
+of_read read.NoMemory = handling.NoMemory
 
 -- The status where a part doesn't handle a line.
 abbrev pub line_status : LineStop → ℕ

@@ -4,7 +4,7 @@ ghost use Rattle.std.specs.Prelude.{◌≡◌};
 ghost use Rattle.line_loop.specs.Status.{closing_status, exit_status, halt_status, has_stop_line};
 ghost use Rattle.line_loop.specs.Status.{end_status, is_end, line_status, read_status};
 
-use iot_bytes::Failed;
+use iot_bytes::{Failed, ReadError};
 use run_loop::SendStop;
 
 /// Why there is no further line.
@@ -169,6 +169,20 @@ impl From<NoLine> for Halt {
 
     fn from(stop: NoLine) -> Halt {
         Halt::Reading(stop)
+    }
+}
+
+/// Why a line isn't handled that can't be read.
+impl From<ReadError> for LineStop {
+    ghost use Rattle.line_loop.specs.Status.{of_read};
+
+    ghost from_gives = { λ error stop. stop ≡ of_read error };
+
+    fn from(error: ReadError) -> LineStop {
+        match error {
+            ReadError::Malformed => LineStop::Malformed,
+            ReadError::NoMemory => LineStop::NoMemory,
+        }
     }
 }
 

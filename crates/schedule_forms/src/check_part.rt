@@ -5,7 +5,7 @@ ghost use Rattle.schedule_forms.specs.Checks.{Fits, ok_line};
 ghost use Rattle.iot_schedule.specs.Devices.{device_at};
 ghost use Rattle.iot_schedule.specs.Steps.{step_at};
 
-use iot_bytes::{NoMemory, ReadError, Row, put_decimal};
+use iot_bytes::{NoMemory, Row, put_decimal};
 use iot_schedule::{read_device, read_step};
 use line_loop::{EndStop, LinePart, LineStop};
 use std::alloc::Global;
@@ -25,34 +25,20 @@ impl CheckPart {
     }
 }
 
-fn unread(error: ReadError) -> LineStop
-    ensures malformed { error ≡ ReadError.Malformed → result ≡ LineStop.Malformed }
-    ensures memory { error ≡ ReadError.NoMemory → result ≡ LineStop.NoMemory }
-{
-    match error {
-        ReadError::Malformed => LineStop::Malformed,
-        ReadError::NoMemory => LineStop::NoMemory,
-    }
-}
-
 // Whether a text spells a device.
 fn check_device(alloc: Global, text: &[u8]) -> Result<(), LineStop>
     ensures { Fits (device_at text.now) result }
 {
-    match read_device(alloc, text) {
-        Ok(_) => Ok(()),
-        Err(error) => Err(unread(error)),
-    }
+    read_device(alloc, text)?;
+    Ok(())
 }
 
 // Whether a text spells a line behind the first one.
 fn check_step(alloc: Global, text: &[u8]) -> Result<(), LineStop>
     ensures { Fits (step_at text.now) result }
 {
-    match read_step(alloc, text) {
-        Ok(_) => Ok(()),
-        Err(error) => Err(unread(error)),
-    }
+    read_step(alloc, text)?;
+    Ok(())
 }
 
 // Whether a text is the line that is due behind so many.

@@ -18,7 +18,7 @@ ghost use Rattle.world_forms.specs.Handling.{BeginsBy, GoesOn, Grows, IsReadAs, 
 ghost use Rattle.world_forms.specs.Handling.{of_make};
 
 use chip_port::Bench;
-use iot_bytes::{NoMemory, ReadError, Row};
+use iot_bytes::{NoMemory, Row};
 use iot_schedule::{Device, Line, read_device, read_step};
 use iot_world::{Halt, World};
 use line_loop::{EndStop, LinePart, LineStop};
@@ -34,16 +34,6 @@ pub(crate) struct ReplayPart<F, G> {
     pub world: Option<World>,
     pub tell: F,
     pub put: G,
-}
-
-fn unread(error: ReadError) -> LineStop
-    ensures malformed { error ≡ ReadError.Malformed → result ≡ LineStop.Malformed }
-    ensures memory { error ≡ ReadError.NoMemory → result ≡ LineStop.NoMemory }
-{
-    match error {
-        ReadError::Malformed => LineStop::Malformed,
-        ReadError::NoMemory => LineStop::NoMemory,
-    }
 }
 
 fn of_make(error: MakeError) -> LineStop
@@ -70,10 +60,7 @@ fn device_of(alloc: Global, text: &[u8]) -> Result<Device, LineStop>
     ensures spells { Spells (device_at text.now) result }
     ensures range { IfOk result (λ device. IsDevice device) }
 {
-    match read_device(alloc, text) {
-        Ok(device) => Ok(device),
-        Err(error) => Err(unread(error)),
-    }
+    Ok(read_device(alloc, text)?)
 }
 
 // What a further line spells.
@@ -81,10 +68,7 @@ fn line_of(alloc: Global, text: &[u8]) -> Result<Line, LineStop>
     ensures spells { Spells (step_at text.now) result }
     ensures range { IfOk result (λ line. IsStep line) }
 {
-    match read_step(alloc, text) {
-        Ok(line) => Ok(line),
-        Err(error) => Err(unread(error)),
-    }
+    Ok(read_step(alloc, text)?)
 }
 
 // Appends what the first line prints, with its end.
