@@ -72,7 +72,8 @@ fn step_all<B: Bench>(
     step_three(alloc, world, bound, bench, modems, out)?;
     let sent = ["order e1 enable:98440000000000000002", "poll e1", "up 0"];
     step_three(alloc, world, sent, bench, modems, out)?;
-    step_three(alloc, world, ["down 0", "modems", "detach 0"], bench, modems, out)
+    let heard = ["down 0", "modems", "detach 0"];
+    step_three(alloc, world, heard, bench, modems, out)
 }
 
 #[test]
