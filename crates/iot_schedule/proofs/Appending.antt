@@ -1,16 +1,13 @@
 -- Appending a line part by part.
-use Rattle.std.proofs.Common.{◌≡◌, ℕ, List, [], ◌∷◌, ◌++◌, map, sym, ap, refl, append_assoc}
+use Rattle.std.proofs.Common.{◌≡◌, ℕ, List, [], ◌∷◌, ◌++◌, map, ap, refl}
 use Rattle.std.specs.List.{flat_map}
 use Rattle.std.proofs.lemmas.List.{append-nil}
 use Rattle.small_card.specs.declared.types.Profile.{Profile}
 use Rattle.small_card.specs.declared.types.Psmo.{Psmo}
 use Rattle.small_card.specs.declared.types.Eco.{Eco}
+use Rattle.trace_text.proofs.Appending.{apart}
 use Rattle.iot_schedule.specs.Words.{spaced}
 use Rattle.iot_schedule.specs.Spelling.{profile_text, profile_entry, psmo_text, psmo_entry, eco_text, eco_entry}
-
--- a list and two more
-pub apart : (xs ys zs : List ℕ) → xs ++ (ys ++ zs) ≡ (xs ++ ys) ++ zs
-apart xs ys zs = sym (append_assoc xs ys zs)
 
 -- what a writer's proof cites
 pub ruleset appended = (apart, append-nil)

@@ -1,1 +1,1 @@
-mod Appending
+pub mod Appending

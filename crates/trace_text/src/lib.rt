@@ -11,5 +11,5 @@ mod tests;
 
 pub use card::put_card;
 pub use items::{put_items, put_refused};
-pub use parts::put_text;
+pub use parts::{put_number, put_text};
 pub use records::put_kept;

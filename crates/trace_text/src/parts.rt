@@ -21,8 +21,11 @@ pub fn put_text(out: &mut Row<u8>, label: &[u8], text: &[u8]) -> Result<(), NoMe
 }
 
 /// Appends a label and a number behind it.
+///
+/// # Errors
+/// Where memory is wanting; a front of the two may then be left behind what was there before.
 #[tactic(auto, using(crate::proofs::Appending::appended))]
-pub(crate) fn put_number(out: &mut Row<u8>, label: &[u8], n: u64) -> Result<(), NoMemory>
+pub fn put_number(out: &mut Row<u8>, label: &[u8], n: u64) -> Result<(), NoMemory>
     ensures ok { OnOk result (out.new ≡ out.old ++ (label.now ++ decimal n)) }
     ensures err { OnErr result (take (length out.old) out.new ≡ out.old) }
 {

@@ -2,13 +2,6 @@
 use Rattle.std.proofs.Common.{◌≡◌, ℕ, min, List, ◌++◌, take, length, OnOk, OnErr, Ok, Err, Result, ap, sym, ◌∙◌, arith, append_assoc}
 use Rattle.std.proofs.lemmas.List.{take_all, take-take, take-append-le, length-take}
 
--- a list and two more
-pub apart : (xs ys zs : List ℕ) → xs ++ (ys ++ zs) ≡ (xs ++ ys) ++ zs
-apart xs ys zs = sym (append_assoc xs ys zs)
-
--- what a writer's proof cites
-pub ruleset appended = (apart)
-
 -- what was there is in front of what was appended
 pub before : (old xs out : List ℕ) → out ≡ old ++ xs → take (length old) out ≡ old
 before old xs out e = ap (λ z. take (length old) z) e ∙ take-append-le (length old) old xs (omega arith) ∙ take_all (length old) old (omega arith)

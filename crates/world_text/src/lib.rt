@@ -7,7 +7,6 @@
 
 mod modems;
 mod network;
-mod parts;
 mod replies;
 #[cfg(test)]
 mod tests;

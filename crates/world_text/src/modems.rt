@@ -4,10 +4,10 @@ ghost use Rattle.modem_bank.specs.Modems.{Seen, seen};
 ghost use Rattle.small_world.specs.Texts.{shown_text, modem_entry, modems_text};
 ghost use Rattle.world_text.specs.Putting.{PutsOne};
 
-use crate::parts::put_number;
 use iot_bytes::{NoMemory, Row, put_hex};
 use modem_bank::Modem;
 use sgp_values::Iccid;
+use trace_text::put_number;
 
 fn put_shown(out: &mut Row<u8>, shown: &Option<Iccid>) -> Result<(), NoMemory>
     ensures ok { OnOk result (out.new ≡ out.old ++ shown_text shown.now) }
@@ -20,7 +20,7 @@ fn put_shown(out: &mut Row<u8>, shown: &Option<Iccid>) -> Result<(), NoMemory>
 }
 
 /// Appends what a modem shows, and how often it was refreshed, behind a space.
-#[tactic(auto, using(crate::proofs::Appending::appended), unfolding(small_world::specs::Texts::modem_entry))]
+#[tactic(auto, using(trace_text::proofs::Appending::appended), unfolding(small_world::specs::Texts::modem_entry))]
 pub fn put_modem(out: &mut Row<u8>, shown: &Option<Iccid>, count: u64) -> Result<(), NoMemory>
     ensures ok { OnOk result (out.new ≡ out.old ++ modem_entry (shown.now, count)) }
     ensures err { OnErr result (take (length out.old) out.new ≡ out.old) }
@@ -50,7 +50,7 @@ fn put_entries<T, G: Fn(&mut Row<u8>, &T) -> Result<(), NoMemory>>(
 /// Appends each modem of a list, whatever its type, by a function that appends one.
 ///
 /// It is [`put_modems`] for crates above that are generic in the list's type.
-#[tactic(auto, using(crate::proofs::Appending::appended), unfolding(small_world::specs::Texts::modems_text))]
+#[tactic(auto, using(trace_text::proofs::Appending::appended), unfolding(small_world::specs::Texts::modems_text))]
 pub fn put_modems_by<T, G: Fn(&mut Row<u8>, &T) -> Result<(), NoMemory>>(
     out: &mut Row<u8>,
     modems: &[T],

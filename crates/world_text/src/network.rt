@@ -5,9 +5,9 @@ ghost use Rattle.small_world.specs.Texts.{places_text, sent_text, also_sent, pus
 ghost use Rattle.small_world.specs.Texts.{bind_text, order_text, skip_text};
 ghost use Rattle.small_world.specs.Texts.{message_text, answer_text};
 
-use crate::parts::put_number;
 use esipa_codec::{BindEnd, MessageEnd, OrderEnd, ToIpa};
 use iot_bytes::{NoMemory, Row};
+use trace_text::put_number;
 
 fn put_places(out: &mut Row<u8>, first: usize, count: usize) -> Result<(), NoMemory>
     requires { first + count < 2 ^ 64 }
@@ -22,7 +22,7 @@ fn put_places(out: &mut Row<u8>, first: usize, count: usize) -> Result<(), NoMem
 }
 
 /// Appends the places of messages that were sent, the first of them and how many there are.
-#[tactic(auto, using(crate::proofs::Appending::appended), unfolding(small_world::specs::Texts::sent_text))]
+#[tactic(auto, using(trace_text::proofs::Appending::appended), unfolding(small_world::specs::Texts::sent_text))]
 pub fn put_sent(out: &mut Row<u8>, first: usize, count: usize) -> Result<(), NoMemory>
     requires { first + count < 2 ^ 64 }
     ensures ok { (posts : List Post) → length posts ≡ count
@@ -34,7 +34,7 @@ pub fn put_sent(out: &mut Row<u8>, first: usize, count: usize) -> Result<(), NoM
 }
 
 /// Appends the places of messages that were sent besides, and nothing where there is none.
-#[tactic(auto, using(crate::proofs::Appending::appended))]
+#[tactic(auto, using(trace_text::proofs::Appending::appended))]
 pub fn put_also_sent(out: &mut Row<u8>, first: usize, count: usize) -> Result<(), NoMemory>
     requires { first + count < 2 ^ 64 }
     ensures ok { (posts : List Post) → length posts ≡ count
@@ -112,7 +112,7 @@ fn put_message(out: &mut Row<u8>, message: &ToIpa) -> Result<(), NoMemory>
     }
 }
 
-#[tactic(auto, using(crate::proofs::Appending::appended), unfolding(small_world::specs::Texts::answer_text))]
+#[tactic(auto, using(trace_text::proofs::Appending::appended), unfolding(small_world::specs::Texts::answer_text))]
 fn put_reply(out: &mut Row<u8>, place: usize, message: &ToIpa) -> Result<(), NoMemory>
     ensures ok { OnOk result (out.new ≡ out.old ++ answer_text place (Reply message.now)) }
     ensures err { OnErr result (take (length out.old) out.new ≡ out.old) }

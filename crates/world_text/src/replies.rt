@@ -6,10 +6,9 @@ ghost use Rattle.small_world.specs.Texts.{said, removed_text};
 ghost use Rattle.small_world.specs.Printing.{device_printed};
 ghost use Rattle.world_text.specs.Removing.{removed_by};
 
-use crate::parts::put_number;
 use iot_bytes::{NoMemory, Row};
 use small_card::{Answer, PackageResult};
-use trace_text::{put_items, put_refused};
+use trace_text::{put_items, put_number, put_refused};
 
 // A word, and the number of the result that the command names.
 fn put_removed(out: &mut Row<u8>, removed: Option<u32>, word: &[u8]) -> Result<(), NoMemory>
@@ -23,7 +22,7 @@ fn put_removed(out: &mut Row<u8>, removed: Option<u32>, word: &[u8]) -> Result<(
     }
 }
 
-#[tactic(auto, using(crate::proofs::Appending::appended), unfolding(small_world::specs::Texts::said))]
+#[tactic(auto, using(trace_text::proofs::Appending::appended), unfolding(small_world::specs::Texts::said))]
 fn put_loaded(out: &mut Row<u8>, loaded: &PackageResult) -> Result<(), NoMemory>
     ensures ok { (c : Command)
         → OnOk result (out.new ≡ out.old ++ said c (Loaded loaded.now)) }
