@@ -4,7 +4,7 @@ ghost use Rattle.std.specs.Prelude.{◌≡◌};
 ghost use Rattle.run_loop.specs.Status.{exit_status, halt_status, has_record};
 ghost use Rattle.run_loop.specs.Status.{part_status, read_status, send_status};
 
-use iot_bytes::WriteFault;
+use iot_bytes::Failed;
 
 /// Why there is no further frame.
 #[derive(Clone, Copy, Debug)]
@@ -160,12 +160,12 @@ impl From<PartStop> for Halt {
     }
 }
 
-impl From<WriteFault> for Halt {
+impl From<Failed> for Halt {
     ghost use Rattle.run_loop.specs.declared.halt.Halt.TheVariants.{Sending};
 
     ghost from_gives = { λ _ halt. halt ≡ Sending };
 
-    fn from(_fault: WriteFault) -> Halt {
+    fn from(_fault: Failed) -> Halt {
         Halt::Sending
     }
 }

@@ -8,17 +8,20 @@ ghost use Rattle.run_loop.specs.Sends.{Sent, Closes};
 
 use crate::halt::SendStop;
 use es10_codec::write_stopped;
-use iot_bytes::{NoMemory, Row, Sink, WriteFault, begin_frame, end_frame, send};
+use iot_bytes::{Failed, NoMemory, Row, Sink, begin_frame, end_frame, send};
 use std::alloc::Global;
 
 /// Sends the octets of a frame.
-pub fn send_frame<K: Sink>(octets: &[u8], sink: &mut K) -> Result<(), WriteFault>
+pub fn send_frame<K: Sink>(octets: &[u8], sink: &mut K) -> Result<(), Failed>
     ensures sent { (content : List ℕ) → octets.now ≡ frame content
         → Sent (K.sent sink.old) (K.sent sink.new) content result }
     ensures fault { OnErr result (Rose (K.faults sink.old) (K.faults sink.new)) }
     ensures monotone { K.faults sink.old ≤ K.faults sink.new }
 {
-    send(sink, octets)
+    match send(sink, octets) {
+        Ok(()) => Ok(()),
+        Err(_) => Err(Failed),
+    }
 }
 
 // The frame of the stop record.
@@ -49,6 +52,6 @@ pub fn send_stopped<K: Sink>(
     };
     match send_frame(octets.as_slice(), sink) {
         Ok(()) => Ok(()),
-        Err(_) => Err(SendStop::Fault),
+        Err(Failed) => Err(SendStop::Fault),
     }
 }
