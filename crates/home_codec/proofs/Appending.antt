@@ -4,20 +4,6 @@ use Rattle.std.proofs.lemmas.Grind.{replicate_next}
 use Rattle.std.proofs.lemmas.List.{append-nil}
 use Rattle.home_codec.specs.Fixed.{zeros}
 
--- a list and two more
-pub apart : (xs ys zs : List ℕ) → xs ++ (ys ++ zs) ≡ (xs ++ ys) ++ zs
-apart xs ys zs = sym (append_assoc xs ys zs)
-
--- an octet and more
-pub first_apart : (xs zs : List ℕ) (y : ℕ) → xs ++ (y ∷ zs) ≡ (xs ++ y ∷ []) ++ zs
-first_apart xs zs y = sym (append_assoc xs (y ∷ []) zs)
-
--- two octets and more
-pub two_apart : (xs zs : List ℕ) (y w : ℕ) → xs ++ (y ∷ w ∷ zs) ≡ (xs ++ y ∷ w ∷ []) ++ zs
-two_apart xs zs y w = sym (append_assoc xs (y ∷ w ∷ []) zs)
-
-pub ruleset appended = (apart)
-
 pub zeros_more : (n : ℕ) → zeros (n + 1) ≡ zeros n ++ 0 ∷ []
 unfolding zeros
 zeros_more n = replicate_next n 0

@@ -42,7 +42,7 @@ fn put_long(out: &mut Row<u8>, n: u64) -> Result<(), NoMemory>
     out.append(&n.to_be_bytes())
 }
 
-#[tactic(auto, using(crate::proofs::Appending::appended), unfolding(crate::specs::Fixed::text))]
+#[tactic(auto, using(iot_bytes::proofs::Appending::appended), unfolding(crate::specs::Fixed::text))]
 fn put_text(out: &mut Row<u8>, n: usize, octets: &[u8]) -> Result<(), NoMemory>
     requires fits { length octets.now ≤ n }
     requires few { n ≤ 255 }
@@ -53,7 +53,7 @@ fn put_text(out: &mut Row<u8>, n: usize, octets: &[u8]) -> Result<(), NoMemory>
     put_zeros(out, n - octets.len())
 }
 
-#[tactic(auto, using(crate::proofs::Appending::appended), unfolding(crate::specs::Layout::armed_field))]
+#[tactic(auto, using(iot_bytes::proofs::Appending::appended), unfolding(crate::specs::Layout::armed_field))]
 fn put_armed(out: &mut Row<u8>, armed: &Option<Armed>) -> Result<(), NoMemory>
     ensures { OnOk result (out.new ≡ out.old ++ armed_field armed.now) }
 {
@@ -70,7 +70,7 @@ fn put_armed(out: &mut Row<u8>, armed: &Option<Armed>) -> Result<(), NoMemory>
     }
 }
 
-#[tactic(auto, using(crate::proofs::Appending::appended), unfolding(crate::specs::Layout::head))]
+#[tactic(auto, using(iot_bytes::proofs::Appending::appended), unfolding(crate::specs::Layout::head))]
 fn put_head(out: &mut Row<u8>, head: &Head) -> Result<(), NoMemory>
     ensures { OnOk result (out.new ≡ out.old ++ spelled_head head.now) }
 {
@@ -83,7 +83,7 @@ fn put_head(out: &mut Row<u8>, head: &Head) -> Result<(), NoMemory>
     put_zeros(out, HEAD_END)
 }
 
-#[tactic(auto, using(crate::proofs::Appending::appended), unfolding(crate::specs::Layout::profile_slot, crate::specs::Layout::state))]
+#[tactic(auto, using(iot_bytes::proofs::Appending::appended), unfolding(crate::specs::Layout::profile_slot, crate::specs::Layout::state))]
 fn put_profile(out: &mut Row<u8>, profile: &Profile) -> Result<(), NoMemory>
     ensures { OnOk result (out.new ≡ out.old ++ profile_slot profile.now) }
 {
@@ -93,7 +93,7 @@ fn put_profile(out: &mut Row<u8>, profile: &Profile) -> Result<(), NoMemory>
     put_zeros(out, PROFILE_END)
 }
 
-#[tactic(auto, using(crate::proofs::Appending::appended), unfolding(crate::specs::Layout::eim_slot))]
+#[tactic(auto, using(iot_bytes::proofs::Appending::appended), unfolding(crate::specs::Layout::eim_slot))]
 fn put_eim(out: &mut Row<u8>, entry: &EimEntry) -> Result<(), NoMemory>
     ensures { OnOk result (out.new ≡ out.old ++ eim_slot entry.now) }
 {
@@ -123,7 +123,7 @@ fn put_eims(out: &mut Row<u8>, rows: &[EimEntry]) -> Result<(), NoMemory>
     Ok(())
 }
 
-#[tactic(auto, using(crate::proofs::Appending::appended), unfolding(crate::specs::Fixed::slots))]
+#[tactic(auto, using(iot_bytes::proofs::Appending::appended), unfolding(crate::specs::Fixed::slots))]
 fn put_slots(out: &mut Row<u8>, profiles: &[Profile], eims: &[EimEntry]) -> Result<(), NoMemory>
     requires profiles { length profiles.now ≤ 16 }
     requires eims { length eims.now ≤ 8 }
@@ -137,7 +137,7 @@ fn put_slots(out: &mut Row<u8>, profiles: &[Profile], eims: &[EimEntry]) -> Resu
 }
 
 /// The head, and the slots of the profiles and the eIMs.
-#[tactic(auto, using(crate::proofs::Appending::appended))]
+#[tactic(auto, using(iot_bytes::proofs::Appending::appended))]
 pub(crate) fn put_fields(
     out: &mut Row<u8>,
     head: &Head,
@@ -154,7 +154,7 @@ pub(crate) fn put_fields(
 }
 
 /// The length of a result, and the result.
-#[tactic(auto, using(crate::proofs::Appending::appended), unfolding(crate::specs::Layout::kept_front))]
+#[tactic(auto, using(iot_bytes::proofs::Appending::appended), unfolding(crate::specs::Layout::kept_front))]
 pub(crate) fn put_kept(out: &mut Row<u8>, kept: &PackageResult) -> Result<(), NoMemory>
     requires { IsResult kept.now }
     ensures { OnOk result (out.new ≡ out.old ++ kept_front kept.now) }
@@ -163,7 +163,7 @@ pub(crate) fn put_kept(out: &mut Row<u8>, kept: &PackageResult) -> Result<(), No
     write_result(kept, out)
 }
 
-#[tactic(auto, using(crate::proofs::Appending::appended), unfolding(crate::specs::Layout::result_slot))]
+#[tactic(auto, using(iot_bytes::proofs::Appending::appended), unfolding(crate::specs::Layout::result_slot))]
 fn put_result(out: &mut Row<u8>, kept: &PackageResult) -> Result<(), NoMemory>
     requires { IsResult kept.now }
     ensures { OnOk result (out.new ≡ out.old ++ result_slot kept.now) }
@@ -183,7 +183,7 @@ fn put_results(out: &mut Row<u8>, rows: &[PackageResult]) -> Result<(), NoMemory
 }
 
 /// The slots of the pending results, each in the slot of its place in the list.
-#[tactic(auto, using(crate::proofs::Appending::appended), unfolding(crate::specs::Fixed::slots))]
+#[tactic(auto, using(iot_bytes::proofs::Appending::appended), unfolding(crate::specs::Fixed::slots))]
 pub(crate) fn put_pending(out: &mut Row<u8>, pending: &[PackageResult]) -> Result<(), NoMemory>
     requires few { length pending.now ≤ 8 }
     requires each { Every IsResult pending.now }

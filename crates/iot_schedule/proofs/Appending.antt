@@ -5,7 +5,7 @@ use Rattle.std.proofs.lemmas.List.{append-nil}
 use Rattle.small_card.specs.declared.types.Profile.{Profile}
 use Rattle.small_card.specs.declared.types.Psmo.{Psmo}
 use Rattle.small_card.specs.declared.types.Eco.{Eco}
-use Rattle.trace_text.proofs.Appending.{apart}
+use Rattle.iot_bytes.proofs.Appending.{apart}
 use Rattle.iot_schedule.specs.Words.{spaced}
 use Rattle.iot_schedule.specs.Spelling.{profile_text, profile_entry, psmo_text, psmo_entry, eco_text, eco_entry}
 

@@ -58,7 +58,7 @@ fn target(x: u64) -> &'static [u8]
 }
 
 // An order about one of the three profiles, which the next draw picks.
-#[tactic(auto, using(trace_text::proofs::Appending::apart), unfolding(crate::specs::Making::aimed_text))]
+#[tactic(auto, using(iot_bytes::proofs::Appending::apart), unfolding(crate::specs::Making::aimed_text))]
 fn put_aimed(out: &mut Row<u8>, label: &[u8], x: u64) -> Result<(), NoMemory>
     requires { x < 2 ^ 31 }
     ensures ok { OnOk result (out.new ≡ out.old ++ aimed_text label.now x) }
@@ -80,7 +80,7 @@ fn tear(x: u64) -> &'static [u8]
 }
 
 // A planned cut: the next draw gives its calls, and the one behind that what it leaves.
-#[tactic(auto, using(trace_text::proofs::Appending::apart), unfolding(crate::specs::Making::cut_text))]
+#[tactic(auto, using(iot_bytes::proofs::Appending::apart), unfolding(crate::specs::Making::cut_text))]
 fn put_cut(out: &mut Row<u8>, x: u64) -> Result<(), NoMemory>
     requires { x < 2 ^ 31 }
     ensures ok { OnOk result (out.new ≡ out.old ++ cut_text x) }

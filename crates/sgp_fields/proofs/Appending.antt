@@ -3,16 +3,13 @@ use Rattle.std.proofs.Common.{◌≡◌, ℕ, ◌+◌, ◌≤◌, List, ◌∷�
 use Rattle.std.specs.List.{flat_map}
 use Rattle.std.proofs.lemmas.List.{take-take, take_all}
 use Rattle.std.proofs.Math.Seq.{take-append_seam}
+use Rattle.iot_bytes.proofs.Appending.{apart}
 use Rattle.sgp_der.specs.Element.{element, len_octets}
 
 -- the head, with the length of the content, and then the content
 pub opened : (old content : List ℕ) (tag : ℕ) → old ++ element tag content ≡ (old ++ tag ∷ len_octets (length content)) ++ content
 unfolding element
 opened old content tag = sym (append_assoc old (tag ∷ len_octets (length content)) content)
-
--- a list and two more
-pub apart : (xs ys zs : List ℕ) → xs ++ (ys ++ zs) ≡ (xs ++ ys) ++ zs
-apart xs ys zs = sym (append_assoc xs ys zs)
 
 -- what a writer's proof cites
 pub ruleset appended = (opened, apart)

@@ -16,7 +16,7 @@ fn put_sign(out: &mut Row<u8>, enabled: bool) -> Result<(), NoMemory>
     out.append(if enabled { b" +" } else { b" -" })
 }
 
-#[tactic(auto, using(crate::proofs::Appending::appended), unfolding(crate::specs::Texts::profile_entry))]
+#[tactic(auto, using(iot_bytes::proofs::Appending::appended), unfolding(crate::specs::Texts::profile_entry))]
 fn put_profile(out: &mut Row<u8>, profile: &Profile) -> Result<(), NoMemory>
     ensures ok { OnOk result (out.new ≡ out.old ++ profile_entry profile.now) }
     ensures err { OnErr result (take (length out.old) out.new ≡ out.old) }
@@ -36,7 +36,7 @@ fn put_profiles(out: &mut Row<u8>, profiles: &[Profile]) -> Result<(), NoMemory>
 }
 
 // A label, and what names a package behind it.
-#[tactic(auto, using(crate::proofs::Appending::appended), unfolding(crate::specs::Texts::package_text))]
+#[tactic(auto, using(iot_bytes::proofs::Appending::appended), unfolding(crate::specs::Texts::package_text))]
 fn put_package(
     out: &mut Row<u8>,
     label: &[u8],
@@ -53,7 +53,7 @@ fn put_package(
     put_number(out, b"/", counter)
 }
 
-#[tactic(auto, using(crate::proofs::Appending::appended), unfolding(crate::specs::Texts::eim_entry))]
+#[tactic(auto, using(iot_bytes::proofs::Appending::appended), unfolding(crate::specs::Texts::eim_entry))]
 fn put_eim(out: &mut Row<u8>, eim: &EimEntry) -> Result<(), NoMemory>
     ensures ok { OnOk result (out.new ≡ out.old ++ eim_entry eim.now) }
     ensures err { OnErr result (take (length out.old) out.new ≡ out.old) }
@@ -71,7 +71,7 @@ fn put_eims(out: &mut Row<u8>, eims: &[EimEntry]) -> Result<(), NoMemory>
     Ok(())
 }
 
-#[tactic(auto, using(crate::proofs::Appending::appended), unfolding(crate::specs::Texts::pending_entry))]
+#[tactic(auto, using(iot_bytes::proofs::Appending::appended), unfolding(crate::specs::Texts::pending_entry))]
 fn put_pending(out: &mut Row<u8>, pending: &PackageResult) -> Result<(), NoMemory>
     ensures ok { OnOk result (out.new ≡ out.old ++ pending_entry pending.now) }
     ensures err { OnErr result (take (length out.old) out.new ≡ out.old) }
@@ -92,7 +92,7 @@ fn put_all_pending(out: &mut Row<u8>, pending: &[PackageResult]) -> Result<(), N
     Ok(())
 }
 
-#[tactic(auto, using(crate::proofs::Appending::appended), unfolding(crate::specs::Texts::profiles_text))]
+#[tactic(auto, using(iot_bytes::proofs::Appending::appended), unfolding(crate::specs::Texts::profiles_text))]
 fn put_profile_part(out: &mut Row<u8>, profiles: &[Profile]) -> Result<(), NoMemory>
     ensures ok { OnOk result (out.new ≡ out.old ++ profiles_text profiles.now) }
     ensures err { OnErr result (take (length out.old) out.new ≡ out.old) }
@@ -101,7 +101,7 @@ fn put_profile_part(out: &mut Row<u8>, profiles: &[Profile]) -> Result<(), NoMem
     put_profiles(out, profiles)
 }
 
-#[tactic(auto, using(crate::proofs::Appending::appended), unfolding(crate::specs::Texts::eims_text))]
+#[tactic(auto, using(iot_bytes::proofs::Appending::appended), unfolding(crate::specs::Texts::eims_text))]
 fn put_eim_part(out: &mut Row<u8>, eims: &[EimEntry]) -> Result<(), NoMemory>
     ensures ok { OnOk result (out.new ≡ out.old ++ eims_text eims.now) }
     ensures err { OnErr result (take (length out.old) out.new ≡ out.old) }
@@ -110,7 +110,7 @@ fn put_eim_part(out: &mut Row<u8>, eims: &[EimEntry]) -> Result<(), NoMemory>
     put_eims(out, eims)
 }
 
-#[tactic(auto, using(crate::proofs::Appending::appended), unfolding(crate::specs::Texts::pending_text))]
+#[tactic(auto, using(iot_bytes::proofs::Appending::appended), unfolding(crate::specs::Texts::pending_text))]
 fn put_pending_part(out: &mut Row<u8>, pending: &[PackageResult]) -> Result<(), NoMemory>
     ensures ok { OnOk result (out.new ≡ out.old ++ pending_text pending.now) }
     ensures err { OnErr result (take (length out.old) out.new ≡ out.old) }
@@ -119,7 +119,7 @@ fn put_pending_part(out: &mut Row<u8>, pending: &[PackageResult]) -> Result<(), 
     put_all_pending(out, pending)
 }
 
-#[tactic(auto, using(crate::proofs::Appending::appended), unfolding(crate::specs::Texts::card_text))]
+#[tactic(auto, using(iot_bytes::proofs::Appending::appended), unfolding(crate::specs::Texts::card_text))]
 fn put_parts(
     out: &mut Row<u8>,
     profiles: &[Profile],

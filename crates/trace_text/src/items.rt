@@ -37,7 +37,7 @@ fn put_item(out: &mut Row<u8>, item: &Item) -> Result<(), NoMemory>
     }
 }
 
-#[tactic(auto, using(crate::proofs::Appending::appended), unfolding(crate::specs::Texts::item_entry))]
+#[tactic(auto, using(iot_bytes::proofs::Appending::appended), unfolding(crate::specs::Texts::item_entry))]
 fn put_entry(out: &mut Row<u8>, item: &Item) -> Result<(), NoMemory>
     ensures ok { OnOk result (out.new ≡ out.old ++ item_entry item.now) }
     ensures err { OnErr result (take (length out.old) out.new ≡ out.old) }
@@ -81,7 +81,7 @@ fn put_counters(out: &mut Row<u8>, refused: &Refused) -> Result<(), NoMemory>
     Ok(())
 }
 
-#[tactic(auto, using(crate::proofs::Appending::appended), unfolding(crate::specs::Texts::refused_text))]
+#[tactic(auto, using(iot_bytes::proofs::Appending::appended), unfolding(crate::specs::Texts::refused_text))]
 fn put_whole_refused(out: &mut Row<u8>, refused: &Refused) -> Result<(), NoMemory>
     ensures ok { OnOk result (out.new ≡ out.old ++ refused_text refused.now) }
     ensures err { OnErr result (take (length out.old) out.new ≡ out.old) }

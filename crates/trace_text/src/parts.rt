@@ -11,7 +11,7 @@ use iot_bytes::{NoMemory, Row, put_decimal};
 ///
 /// # Errors
 /// Where memory is wanting; a front of the two may then be left behind what was there before.
-#[tactic(auto, using(crate::proofs::Appending::appended))]
+#[tactic(auto, using(iot_bytes::proofs::Appending::appended))]
 pub fn put_text(out: &mut Row<u8>, label: &[u8], text: &[u8]) -> Result<(), NoMemory>
     ensures ok { OnOk result (out.new ≡ out.old ++ (label.now ++ text.now)) }
     ensures err { OnErr result (take (length out.old) out.new ≡ out.old) }
@@ -24,7 +24,7 @@ pub fn put_text(out: &mut Row<u8>, label: &[u8], text: &[u8]) -> Result<(), NoMe
 ///
 /// # Errors
 /// Where memory is wanting; a front of the two may then be left behind what was there before.
-#[tactic(auto, using(crate::proofs::Appending::appended))]
+#[tactic(auto, using(iot_bytes::proofs::Appending::appended))]
 pub fn put_number(out: &mut Row<u8>, label: &[u8], n: u64) -> Result<(), NoMemory>
     ensures ok { OnOk result (out.new ≡ out.old ++ (label.now ++ decimal n)) }
     ensures err { OnErr result (take (length out.old) out.new ≡ out.old) }

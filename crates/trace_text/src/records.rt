@@ -6,7 +6,7 @@ use crate::parts::{put_mark, put_number};
 use iot_bytes::{NoMemory, Row};
 use small_card::PackageResult;
 
-#[tactic(auto, using(crate::proofs::Appending::appended), unfolding(crate::specs::Texts::record_entry))]
+#[tactic(auto, using(iot_bytes::proofs::Appending::appended), unfolding(crate::specs::Texts::record_entry))]
 fn put_record(out: &mut Row<u8>, record: &PackageResult) -> Result<(), NoMemory>
     ensures ok { OnOk result (out.new ≡ out.old ++ record_entry «record».now) }
     ensures err { OnErr result (take (length out.old) out.new ≡ out.old) }
@@ -27,7 +27,7 @@ fn put_records(out: &mut Row<u8>, records: &[PackageResult]) -> Result<(), NoMem
     Ok(())
 }
 
-#[tactic(auto, using(crate::proofs::Appending::appended), unfolding(crate::specs::Texts::kept_text))]
+#[tactic(auto, using(iot_bytes::proofs::Appending::appended), unfolding(crate::specs::Texts::kept_text))]
 fn put_whole_kept(out: &mut Row<u8>, records: &[PackageResult]) -> Result<(), NoMemory>
     ensures ok { OnOk result (out.new ≡ out.old ++ kept_text records.now) }
     ensures err { OnErr result (take (length out.old) out.new ≡ out.old) }

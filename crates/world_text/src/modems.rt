@@ -20,7 +20,7 @@ fn put_shown(out: &mut Row<u8>, shown: &Option<Iccid>) -> Result<(), NoMemory>
 }
 
 /// Appends what a modem shows, and how often it was refreshed, behind a space.
-#[tactic(auto, using(trace_text::proofs::Appending::appended), unfolding(small_world::specs::Texts::modem_entry))]
+#[tactic(auto, using(iot_bytes::proofs::Appending::appended), unfolding(small_world::specs::Texts::modem_entry))]
 pub fn put_modem(out: &mut Row<u8>, shown: &Option<Iccid>, count: u64) -> Result<(), NoMemory>
     ensures ok { OnOk result (out.new ≡ out.old ++ modem_entry (shown.now, count)) }
     ensures err { OnErr result (take (length out.old) out.new ≡ out.old) }
@@ -50,7 +50,7 @@ fn put_entries<T, G: Fn(&mut Row<u8>, &T) -> Result<(), NoMemory>>(
 /// Appends each modem of a list, whatever its type, by a function that appends one.
 ///
 /// It is [`put_modems`] for crates above that are generic in the list's type.
-#[tactic(auto, using(trace_text::proofs::Appending::appended), unfolding(small_world::specs::Texts::modems_text))]
+#[tactic(auto, using(iot_bytes::proofs::Appending::appended), unfolding(small_world::specs::Texts::modems_text))]
 pub fn put_modems_by<T, G: Fn(&mut Row<u8>, &T) -> Result<(), NoMemory>>(
     out: &mut Row<u8>,
     modems: &[T],

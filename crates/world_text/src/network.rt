@@ -22,7 +22,7 @@ fn put_places(out: &mut Row<u8>, first: usize, count: usize) -> Result<(), NoMem
 }
 
 /// Appends the places of messages that were sent, the first of them and how many there are.
-#[tactic(auto, using(trace_text::proofs::Appending::appended), unfolding(small_world::specs::Texts::sent_text))]
+#[tactic(auto, using(iot_bytes::proofs::Appending::appended), unfolding(small_world::specs::Texts::sent_text))]
 pub fn put_sent(out: &mut Row<u8>, first: usize, count: usize) -> Result<(), NoMemory>
     requires { first + count < 2 ^ 64 }
     ensures ok { (posts : List Post) → length posts ≡ count
@@ -34,7 +34,7 @@ pub fn put_sent(out: &mut Row<u8>, first: usize, count: usize) -> Result<(), NoM
 }
 
 /// Appends the places of messages that were sent besides, and nothing where there is none.
-#[tactic(auto, using(trace_text::proofs::Appending::appended))]
+#[tactic(auto, using(iot_bytes::proofs::Appending::appended))]
 pub fn put_also_sent(out: &mut Row<u8>, first: usize, count: usize) -> Result<(), NoMemory>
     requires { first + count < 2 ^ 64 }
     ensures ok { (posts : List Post) → length posts ≡ count
@@ -112,7 +112,7 @@ fn put_message(out: &mut Row<u8>, message: &ToIpa) -> Result<(), NoMemory>
     }
 }
 
-#[tactic(auto, using(trace_text::proofs::Appending::appended), unfolding(small_world::specs::Texts::answer_text))]
+#[tactic(auto, using(iot_bytes::proofs::Appending::appended), unfolding(small_world::specs::Texts::answer_text))]
 fn put_reply(out: &mut Row<u8>, place: usize, message: &ToIpa) -> Result<(), NoMemory>
     ensures ok { OnOk result (out.new ≡ out.old ++ answer_text place (Reply message.now)) }
     ensures err { OnErr result (take (length out.old) out.new ≡ out.old) }

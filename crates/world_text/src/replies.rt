@@ -22,7 +22,7 @@ fn put_removed(out: &mut Row<u8>, removed: Option<u32>, word: &[u8]) -> Result<(
     }
 }
 
-#[tactic(auto, using(trace_text::proofs::Appending::appended), unfolding(small_world::specs::Texts::said))]
+#[tactic(auto, using(iot_bytes::proofs::Appending::appended), unfolding(small_world::specs::Texts::said))]
 fn put_loaded(out: &mut Row<u8>, loaded: &PackageResult) -> Result<(), NoMemory>
     ensures ok { (c : Command)
         → OnOk result (out.new ≡ out.old ++ said c (Loaded loaded.now)) }

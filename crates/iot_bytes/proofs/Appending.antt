@@ -1,4 +1,4 @@
--- Appending a text part by part.
+-- Appending piece by piece.
 use Rattle.std.proofs.Common.{◌≡◌, ℕ, List, ◌++◌, sym, append_assoc}
 
 -- a list and two more
