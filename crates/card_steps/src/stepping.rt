@@ -14,21 +14,21 @@ use small_card::{Answer, Command};
 use std::alloc::Global;
 
 // The turn of a command.
-fn carry_out(alloc: Global, card: &Card, command: Command) -> Result<Turn, NoMemory>
+fn carry_out(alloc: Global, card: &Card, command: &Command) -> Result<Turn, NoMemory>
     requires valid { IsValid (full_card card.now) }
-    ensures turns { IfOk result (λ end. Turns command (full_card card.now) end) }
+    ensures turns { IfOk result (λ end. Turns command.now (full_card card.now) end) }
 {
     match command {
         Command::Personalise {
             eid: _,
             profiles: _,
         } => Ok(Turn::Same(Answer::AlreadyPersonal)),
-        Command::Load { good, bytes } => load(alloc, card, good, bytes.as_slice()),
+        Command::Load { good, bytes } => load(alloc, card, *good, bytes.as_slice()),
         Command::Rollback => roll_back(alloc, card),
-        Command::Remove { seq } => remove(alloc, card, seq),
+        Command::Remove { seq } => remove(alloc, card, *seq),
         Command::Results => list_results(alloc, card),
         Command::Eims => list_eims(alloc, card),
-        Command::Initial { id, address, key } => associate(alloc, card, id, address, key),
+        Command::Initial { id, address, key } => associate(alloc, card, *id, *address, *key),
     }
 }
 
@@ -38,11 +38,11 @@ fn carry_out(alloc: Global, card: &Card, command: Command) -> Result<Turn, NoMem
 ///
 /// # Errors
 /// `NoMemory`, and nothing was done.
-pub fn turn(alloc: Global, card: &Card, command: Command) -> Result<Turn, NoMemory>
+pub fn turn(alloc: Global, card: &Card, command: &Command) -> Result<Turn, NoMemory>
     requires valid { IsValid (full_card card.now) }
-    ensures turns { IfOk result (λ end. Turns command (full_card card.now) end) }
+    ensures turns { IfOk result (λ end. Turns command.now (full_card card.now) end) }
     ensures valid { IfOk result (λ end. IsValid (left_by (full_card card.now) end)) }
-    ensures range { IsCommand command → IfOk result (λ end. IsAnswer (answer_of end)) }
+    ensures range { IsCommand command.now → IfOk result (λ end. IsAnswer (answer_of end)) }
 {
     let end = carry_out(alloc, card, command)?;
     Ok(end)

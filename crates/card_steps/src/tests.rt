@@ -82,7 +82,7 @@ impl Held {
     }
 
     fn step(&mut self, alloc: Global, command: Command) -> Result<Answer, NoMemory> {
-        match turn(alloc, &self.card, command) {
+        match turn(alloc, &self.card, &command) {
             Ok(end) => Ok(self.take_over(end)),
             Err(NoMemory) => Err(NoMemory),
         }

@@ -1,9 +1,9 @@
 -- What was carried over to the chip, and answered.
-use Rattle.std.proofs.Common.{◌≡◌, ◌⊎◌, ⊎_elim, ℕ, ◌+◌, ◌≤◌, Bool, true, false, List, refl, sym, ap, subst, ◌∙◌, arith, inl, inr}
-use Rattle.std.specs.Prelude.{Option, Some, None, Result, Ok, Err, is_ok}
+use Rattle.std.proofs.Common.{◌≡◌, ℕ, Bool, true, false, List, refl, sym, ap, subst, ◌∙◌, arith, inl}
+use Rattle.std.specs.Prelude.{Some, None, Result, Ok, Err, is_ok}
 use Rattle.chip_port.specs.Seen.{Seen, Tally, called}
 use Rattle.chip_port.specs.Rules.{IfTold, HasCause, Answered, Untouched}
-use Rattle.chip_port.specs.Runs.{Ran, Ended}
+use Rattle.chip_port.specs.Runs.{Ran}
 use Rattle.chip_port.proofs.Runs.{ran_none, ran_then, ran_most, ran_answered, ran_unanswered, ran_untouched}
 use Rattle.small_card.specs.Cards.{FullCard}
 use Rattle.card_store.specs.Standing.{Stands, StandsForEither, IsSettled}

@@ -1,18 +1,18 @@
 -- A chip that holds a history goes on holding it over the calls of a card.
-use Rattle.std.proofs.Common.{◌≡◌, ◌⊎◌, ⊎_elim, inl, inr, ℕ, ◌+◌, ◌≤◌, true, List, [], ◌∷◌, length, refl, sym, ◌∙◌, ap, subst, arith}
+use Rattle.std.proofs.Common.{◌≡◌, ◌⊎◌, ⊎_elim, inl, inr, ℕ, ◌+◌, List, [], ◌∷◌, length, refl, sym, ◌∙◌, ap, subst, arith}
 use Rattle.std.specs.Prelude.{Option, Some, None}
 use Rattle.chip_port.specs.Seen.{Seen}
 use Rattle.chip_port.specs.Rules.{Sound}
 use Rattle.chip_port.specs.Runs.{Ended}
 use Rattle.small_card.specs.Units.{CardUnit}
-use Rattle.small_card.specs.Histories.{History, full_of, with_unit}
+use Rattle.small_card.specs.Histories.{History, full_of}
 use Rattle.small_card.specs.Prefixes.{first_units}
 use Rattle.small_card.proofs.Prefixes.{first_all}
 use Rattle.small_card.specs.declared.types.Command.{Command}
 use Rattle.package_codec.specs.Replies.{unit_of, grown, after}
 use Rattle.card_store.specs.Looking.{Looks}
 use Rattle.card_store.specs.Standing.{Stands}
-use Rattle.card_store.specs.Holding.{Mark, IsMarked, AreMarked, Holds, IsHeld, StandsAt, followed, standing}
+use Rattle.card_store.specs.Holding.{Mark, AreMarked, Holds, IsHeld, StandsAt, followed, standing}
 use Rattle.card_store.proofs.Holding.{answer_held}
 use Rattle.euicc_core.specs.Answers.{Answers}
 

@@ -1,15 +1,14 @@
 -- A card that was powered up, or made.
-use Rattle.std.proofs.Common.{◌≡◌, ◌⊎◌, ⊎_elim, ℕ, ◌+◌, ◌≤◌, true, false, List, refl, sym, ap, subst, ◌∙◌, arith, inl, inr}
-use Rattle.std.specs.Prelude.{Result, Ok, Err, Option, Some}
+use Rattle.std.proofs.Common.{⊎_elim, false, refl, arith, inl, inr}
+use Rattle.std.specs.Prelude.{Ok, Err, Some}
 use Rattle.chip_port.specs.Seen.{Seen}
 use Rattle.chip_port.specs.Rules.{IfTold, HasCause, Answered, Sound}
-use Rattle.chip_port.specs.Runs.{Ran, Ended}
+use Rattle.chip_port.specs.Runs.{Ran}
 use Rattle.chip_port.proofs.Runs.{ran_most, ran_since, ended_since}
 use Rattle.small_card.specs.Cards.{FullCard}
 use Rattle.home_codec.specs.FullCards.{full_card}
 use Rattle.home_codec.specs.declared.card.Card.{Card}
-use Rattle.card_store.specs.Standing.{Stands, IsSettled}
-use Rattle.card_store.specs.Loading.{StandsAs, IsAsBefore, IsKept, Loads}
+use Rattle.card_store.specs.Loading.{IsAsBefore, Loads}
 use Rattle.card_store.specs.Formatting.{InTheMaking, Formats}
 use Rattle.card_store.specs.declared.ends.LoadEnd.{LoadEnd}
 use Rattle.card_store.specs.declared.ends.LoadEnd.TheVariants as load
@@ -17,8 +16,6 @@ use Rattle.card_store.specs.declared.ends.MakeError.{MakeError}
 use Rattle.card_store.specs.declared.ends.MakeError.TheVariants as make
 use Rattle.euicc_core.specs.Answers.{Answers}
 use Rattle.euicc_core.specs.Openings.{IsOpened, IsUnopened, Opens, Personalises, of_load}
-use Rattle.euicc_core.specs.declared.ends.OpenError.{OpenError}
-use Rattle.euicc_core.specs.declared.ends.OpenError.TheVariants as open_end
 use Rattle.euicc_core.proofs.Closed.{answers_after, unanswered_after}
 
 -- an answer to reset: what was there at entry was left then

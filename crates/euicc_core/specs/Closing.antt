@@ -1,10 +1,9 @@
 -- How a step is closed: what a command made of the card is written and answered.
-use Rattle.std.specs.Prelude.{◌≡◌, true, false, Option, Some, None, Result, Ok, Err}
+use Rattle.std.specs.Prelude.{true, false, Option, Some, None, Result, Ok, Err}
 use Rattle.chip_port.specs.Seen.{Seen}
 use Rattle.chip_port.specs.Rules.{Untouched}
 use Rattle.chip_port.specs.Runs.{Ran}
 use Rattle.small_card.specs.Cards.{FullCard}
-use Rattle.small_card.specs.Valid.{IsValid}
 use Rattle.home_codec.specs.FullCards.{full_card}
 use Rattle.card_steps.specs.Steps.{answer_of}
 use Rattle.card_steps.specs.declared.turns.Turn.{Turn}
@@ -46,27 +45,17 @@ abbrev pub Closes : FullCard → Turn → Option StageError → Seen → Seen �
 Closes c (Same a) failure old new = ClosesSame c failure old new
 Closes c (Changed card a) failure old new = ClosesUnit c (full_card card) failure old new
 
--- the same answer, and the same card if it changes
-abbrev pub IsSameTurn : Turn → Turn → Type 0
-IsSameTurn (Same a) (Same b) = b ≡ a
-IsSameTurn (Same a) (Changed card b) = ⊥
-IsSameTurn (Changed card a) (Same b) = ⊥
-IsSameTurn (Changed card a) (Changed held b) = (full_card held ≡ full_card card) × (b ≡ a)
-
--- a card that changes is valid
-abbrev pub IsNewValid : Turn → Type 0
-IsNewValid (Same a) = Unit {0}
-IsNewValid (Changed card a) = IsValid (full_card card)
-
--- how the step ends
-abbrev pub end_of : Result Turn StageError → StepEnd
-end_of (Ok end) = Answered (answer_of end)
-end_of (Err stage.Failed) = Lost
-end_of (Err stage.NoMemory) = NoMemory
+-- how a step ends that failed
+abbrev pub end_of_failure : StageError → StepEnd
+end_of_failure stage.Failed = Lost
+end_of_failure stage.NoMemory = NoMemory
 
 -- the card that it leaves, if it is lit
-abbrev pub held_after : Option FullCard → Result Turn StageError → Option FullCard
-held_after before (Ok (Same a)) = before
-held_after before (Ok (Changed card a)) = Some (full_card card)
-held_after before (Err stage.Failed) = None
-held_after before (Err stage.NoMemory) = before
+abbrev pub left_by_failure : Option FullCard → StageError → Option FullCard
+left_by_failure before stage.Failed = None
+left_by_failure before stage.NoMemory = before
+
+-- how the step of a turn ends, which was carried over to the chip or failed
+abbrev pub end_of : {T : Type 0} → Turn → Result T StageError → StepEnd
+end_of end (Ok x) = Answered (answer_of end)
+end_of end (Err error) = end_of_failure error

@@ -1,5 +1,5 @@
 -- One step of a card on its chip.
-use Rattle.std.specs.Prelude.{◌≡◌, ◌≤◌, ℕ, Bool, true, false, List, Option, Some, None, IfSome}
+use Rattle.std.specs.Prelude.{◌≡◌, ◌≤◌, Bool, true, false, Option, Some, None, IfSome}
 use Rattle.iot_bytes.specs.Causes.{Rose}
 use Rattle.chip_port.specs.Seen.{Seen, called}
 use Rattle.chip_port.specs.Rules.{Same, Untouched}

@@ -8,16 +8,17 @@ ghost use Rattle.small_card.specs.Valid.{IsValid};
 ghost use Rattle.home_codec.specs.FullCards.{full_card};
 ghost use Rattle.card_store.specs.Looking.{HasCauseOf};
 ghost use Rattle.euicc_core.specs.Steps.{IsLitOn, Steps, HasCauseOfStep, ChipSteps, IsInRange};
-ghost use Rattle.euicc_core.specs.Closing.{IsNewValid, end_of, held_after};
+ghost use Rattle.euicc_core.specs.Closing.{end_of_failure, left_by_failure};
 ghost use Rattle.euicc_core.specs.Openings.{Opens, Personalises, of_load};
 ghost use Rattle.euicc_core.specs.Settling.{IfLit, HasCauseOfSettle, Costs, Cycles, Recognises};
 ghost use Rattle.euicc_core.specs.Settling.{StandsForSome, Returns};
 
-use crate::answering::carry_out;
+use crate::answering::{answer_same, unit};
 use crate::ends::{OpenError, SettleEnd, StepEnd};
-use card_steps::Turn;
+use card_steps::{Turn, turn};
 use card_store::{Card, LoadEnd, MakeError, StageError, format, load};
 use chip_port::{Bench, Chip};
+use iot_bytes::NoMemory;
 use profile_table::Table;
 use sgp_values::Eid;
 use small_card::Command;
@@ -159,41 +160,47 @@ impl EuiccCard {
     /// Carries out a command, writes what it changes as one unit, and answers it as the last call
     /// of the chip. A refused command and a listing make no other call. All memory of a unit and of
     /// its answer is taken before anything is written.
-    pub fn step<C: Chip>(&mut self, alloc: Global, chip: &mut C, command: Command) -> StepEnd
+    pub fn step<C: Chip>(&mut self, alloc: Global, chip: &mut C, command: &Command) -> StepEnd
         requires settled { IfTold (C.sees chip.old) (IsLitOn self.old (C.sees chip.old)) }
         ensures cause { HasCauseOfStep result (C.sees chip.old) (C.sees chip.new) }
         ensures dark { (result ≡ StepEnd.Dark) ↔ (self.old ≡ None) }
         ensures unlit { self.old ≡ None → (self.new ≡ None) × (chip.new ≡ chip.old) }
-        ensures steps { Steps command self.old self.new result }
-        ensures range { IsCommand command → IsInRange result }
+        ensures steps { Steps command.now self.old self.new result }
+        ensures range { IsCommand command.now → IsInRange result }
         ensures settled { IfTold (C.sees chip.new) (IsLitOn self.new (C.sees chip.new)) }
         ensures chip { IfTold (C.sees chip.old)
-            (ChipSteps command self.old result (C.sees chip.old) (C.sees chip.new)) }
+            (ChipSteps command.now self.old result (C.sees chip.old) (C.sees chip.new)) }
     {
-        let carried = match &self.card {
-            Some(card) => carry_out(alloc, chip, card, command),
-            None => return StepEnd::Dark,
+        let Some(card) = &self.card else {
+            return StepEnd::Dark;
         };
-        self.take_over(carried)
+        match turn(alloc, card, command) {
+            Ok(Turn::Same(answer)) => match answer_same(chip) {
+                Ok(()) => StepEnd::Answered(answer),
+                Err(error) => self.fail(error),
+            },
+            Ok(Turn::Changed(new, answer)) => match unit(alloc, chip, card, new) {
+                Ok(held) => {
+                    self.card = Some(held);
+                    StepEnd::Answered(answer)
+                }
+                Err(error) => self.fail(error),
+            },
+            Err(NoMemory) => StepEnd::NoMemory,
+        }
     }
 
-    // Takes over what is left of the card, and tells how the step ends.
-    fn take_over(&mut self, carried: Result<Turn, StageError>) -> StepEnd
-        requires valid { IfOk carried IsNewValid }
-        ensures card { self.new ≡ held_after self.old carried }
-        ensures end { result ≡ end_of carried }
+    // Ends a step that failed. After a fault of the chip the card is dark.
+    fn fail(&mut self, error: StageError) -> StepEnd
+        ensures card { self.new ≡ left_by_failure self.old error }
+        ensures end { result ≡ end_of_failure error }
     {
-        match carried {
-            Ok(Turn::Same(answer)) => StepEnd::Answered(answer),
-            Ok(Turn::Changed(card, answer)) => {
-                self.card = Some(card);
-                StepEnd::Answered(answer)
-            }
-            Err(StageError::Failed) => {
+        match error {
+            StageError::Failed => {
                 self.card = None;
                 StepEnd::Lost
             }
-            Err(StageError::NoMemory) => StepEnd::NoMemory,
+            StageError::NoMemory => StepEnd::NoMemory,
         }
     }
 

@@ -118,7 +118,7 @@ fn unit<C: Chip>(
 ) -> Result<bool, Fail>
     requires settled { IfTold (C.sees chip.old) (IsLitOn card.old (C.sees chip.old)) }
 {
-    match card.step(alloc, chip, command(alloc, kind)?) {
+    match card.step(alloc, chip, &command(alloc, kind)?) {
         StepEnd::Answered(answer) => {
             if is_done(kind, &answer) {
                 Ok(true)

@@ -216,8 +216,8 @@ fn sequences_of_commands(rt: HostRuntime) -> Result<(), Fail> {
     Ok(())
 }
 
-/// Frames behind the first two whose content is broken in one place, and the answer. The run goes on
-/// behind each.
+/// Frames behind the first two whose content is broken in one place, and the answer. The run goes
+/// on behind each.
 const BROKEN: [(&str, &str); 9] = [
     // a result's number 0, a padded one, a long form of a length below 128
     ("a303800100", MALFORMED),

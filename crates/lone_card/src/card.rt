@@ -140,7 +140,7 @@ fn reply_of<C: Chip>(
         → Works o octets.now result (C.sees chip.old) (C.sees chip.new)) }
 {
     match read_command(alloc, octets) {
-        Ok(command) => answer_of(card.step(alloc, chip, command)),
+        Ok(command) => answer_of(card.step(alloc, chip, &command)),
         Err(ReadError::Malformed) => Ok(Answer::Malformed),
         Err(ReadError::NoMemory) => Err(PartStop::NoMemory),
     }

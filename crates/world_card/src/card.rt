@@ -108,7 +108,7 @@ impl BenchCard {
             (ChipSteps command self.old result (B.sees bench.old) (B.sees bench.new)) }
     {
         match &mut self.card {
-            Some(card) => card.step(alloc, bench, command),
+            Some(card) => card.step(alloc, bench, &command),
             None => StepEnd::Dark,
         }
     }

@@ -8,10 +8,10 @@ pub returns-clause-valid : goal.returns-clause-valid
 returns-clause-valid c =
     let f = full_card c.args.card.now in
     let h : History = record { start = f; units = [] } in
-    turned_valid h c.args.command f c.in_ok-end.end c.requires.valid (c.in_ok-end.ensures.turns h (alone_legal f c.requires.valid) (alone_full f))
+    turned_valid h c.args.command.now f c.in_ok-end.end c.requires.valid (c.in_ok-end.ensures.turns h (alone_legal f c.requires.valid) (alone_full f))
 
 pub returns-clause-range : goal.returns-clause-range
 returns-clause-range c = λ fits.
     let f = full_card c.args.card.now in
     let h : History = record { start = f; units = [] } in
-    turned_range h c.args.command f c.in_ok-end.end (alone_legal f c.requires.valid) fits (c.in_ok-end.ensures.turns h (alone_legal f c.requires.valid) (alone_full f))
+    turned_range h c.args.command.now f c.in_ok-end.end (alone_legal f c.requires.valid) fits (c.in_ok-end.ensures.turns h (alone_legal f c.requires.valid) (alone_full f))

@@ -1,4 +1,4 @@
-use Rattle.std.proofs.Common.{◌≡◌, ◌∙◌}
+use Rattle.std.proofs.Common.{◌∙◌}
 use Rattle.home_codec.specs.FullCards.{full_card}
 use Rattle.euicc_core.proofs.Closed.{not_staged, committed, uncommitted}
 use Rattle.euicc_core.proofs.answering.write.Goals as goal

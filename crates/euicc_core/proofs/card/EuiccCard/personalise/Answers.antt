@@ -1,4 +1,3 @@
-use Rattle.std.proofs.Common.{◌≡◌}
 use Rattle.small_card.specs.Fresh.{fresh}
 use Rattle.euicc_core.proofs.Opened.{made, unmade, unformatted}
 use Rattle.euicc_core.proofs.card.EuiccCard.personalise.Goals as goal

@@ -1,4 +1,3 @@
-use Rattle.std.proofs.Common.{◌≡◌}
 use Rattle.euicc_core.proofs.Opened.{opened, unanswered, unopened}
 use Rattle.euicc_core.proofs.card.EuiccCard.power_up.Goals as goal
 
