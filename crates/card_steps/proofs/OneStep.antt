@@ -1,13 +1,13 @@
 -- What a card's parts tell of the histories that it stands for, and each kind of step.
 use Rattle.std.proofs.Common.{◌≡◌, ◌≢◌, ℕ, ◌≤◌, ◌<◌, Bool, true, false, not, cond, List, [], ◌∷◌, map, arith, refl, ◌∙◌, ap, sym, subst, Option, None, Some, Ok, Err}
-use Rattle.std.specs.Prelude.{◌==◌, ◌↔◌, MatchOption, IsSome}
+use Rattle.std.specs.Prelude.{◌==◌, ◌↔◌, MatchOption}
 use Rattle.small_card.specs.Cards.{SmallCard, FullCard, EimList, Results}
 use Rattle.small_card.specs.Checks.{value_refusal}
 use Rattle.small_card.specs.Histories.{History, card_of, former_of, full_of, kept, with_unit}
-use Rattle.small_card.specs.Legal.{IsLegal, IsLegalFrom, May}
+use Rattle.small_card.specs.Legal.{IsLegal, May}
 use Rattle.small_card.specs.EimOperations.{has_eim, line_of, is_empty_list, last_association, do_eco}
 use Rattle.small_card.specs.Packages.{Executed, execute, executed, result_of, with_result, armed_with, armed_by}
-use Rattle.small_card.specs.Ranges.{IsPackage, IsCommand, IsAnswer}
+use Rattle.small_card.specs.Ranges.{IsCommand, IsAnswer}
 use Rattle.small_card.specs.Steps.{step_full, armed_after}
 use Rattle.small_card.specs.Units.{CardUnit, initial, load, rollback, remove, is_pending, after_unit, loaded, rolled_back, without_result, marked}
 use Rattle.small_card.specs.Valid.{IsValid}
@@ -32,7 +32,7 @@ use Rattle.package_codec.proofs.InRange.{reads_in_range}
 use Rattle.std.proofs.lemmas.Bool.{cond_both, true≢false, eqb-true, eq-eqb, ne_eqb, false_from_ne_true}
 use Rattle.sgp_values.specs.Ranges.{IsEimId, IsAddress, IsKey}
 use Rattle.small_card.proofs.Looking.{full_more}
-use Rattle.small_card.proofs.Validity.{legal_valid, full_start}
+use Rattle.small_card.proofs.Validity.{legal_valid, full_start, more_legal}
 use Rattle.package_codec.specs.Checks.{check, check_read, package_refusal, unless_refused}
 use Rattle.package_codec.specs.Replies.{reply, unit_of, unit_of_load, unit_of_rollback, grown, after, load_reply, rollback_reply}
 use Rattle.small_card.specs.EimOperations.{with_counter, added}
@@ -56,20 +56,15 @@ pub former_is : (h : History) (f : FullCard) → full_of h ≡ f → former_of h
 unfolding full_of
 former_is h f e = ap (λ (x : FullCard). x.armed) e
 
--- every valid card is that of a legal history
-pub alone_legal : (f : FullCard) → IsValid f → IsLegal (record { start = f; units = [] })
-unfolding IsLegal IsLegalFrom
-alone_legal f v = v
-
 pub alone_full : (f : FullCard) → full_of (record { start = f; units = [] }) ≡ f
 alone_full f = full_start f
 
 -- the history after a command without a unit, and with one
-after_none : (h : History) (c : Command) → unit_of h c ≡ None → after h c ≡ h
+pub after_none : (h : History) (c : Command) → unit_of h c ≡ None → after h c ≡ h
 unfolding after
 after_none h c e = ap (λ o. grown o h) e
 
-after_one : (h : History) (c : Command) (u : CardUnit) → unit_of h c ≡ Some u → after h c ≡ with_unit h u
+pub after_one : (h : History) (c : Command) (u : CardUnit) → unit_of h c ≡ Some u → after h c ≡ with_unit h u
 unfolding after
 after_one h c u e = ap (λ o. grown o h) e
 
@@ -85,10 +80,6 @@ stays h c f a l is none replied =
       };
       none = none;
     }
-
-more_legal : (h : History) (u : CardUnit) → IsLegal h → May h u → IsLegal (with_unit h u)
-unfolding IsLegal IsLegalFrom with_unit
-more_legal h u l m = (l, m)
 
 -- a command that is one unit
 pub moves : (h : History) (c : Command) (u : CardUnit) (f g : FullCard) (a : Answer) → IsLegal h → full_of h ≡ f → May h u → unit_of h c ≡ Some u → a ≡ reply h c → g ≡ step_full f u → ChangesCard h c f g a
@@ -116,10 +107,6 @@ refused_reply h good bytes why e = (ap (load_reply h) (sym e), ap unit_of_load e
 pub accepted_reply : (h : History) (good : Bool) (bytes : List ℕ) (p : Package) → check h good bytes ≡ Ok p → (answer.Loaded (result_of (card_of h) p) ≡ reply h (command.Load good bytes)) × (unit_of h (command.Load good bytes) ≡ Some (load p))
 unfolding reply unit_of
 accepted_reply h good bytes p e = (ap (load_reply h) (sym e), ap unit_of_load e)
-
-pub may_load : (h : History) (p : Package) → IsPackage p → value_refusal h p ≡ None → May h (load p)
-unfolding May
-may_load h p range checks = record { range = range; checks = checks }
 
 some_signed : (s t : Signed) → Some s ≡ Some t → s ≡ t
 some_signed s t e = cc
@@ -201,10 +188,6 @@ pub no_roll_reply : (h : History) → former_of h ≡ None → (answer.NotPermit
 unfolding reply unit_of
 no_roll_reply h e = (ap (rollback_reply h) (sym e), ap unit_of_rollback e)
 
-pub may_roll_back : (h : History) (armed : Armed) → former_of h ≡ Some armed → May h rollback
-unfolding May
-may_roll_back h armed e = subst IsSome (sym e) refl
-
 rolled_step : (f : FullCard) (armed : Armed) → f.armed ≡ Some armed
     → record { card = record (f.card) { profiles = enabled_alone armed.former f.card.profiles; results = marked armed.seq f.card.results }; armed = None } ≡ step_full f rollback
 unfolding step_full after_unit armed_after rolled_back
@@ -229,10 +212,6 @@ remove_reply h seq e = (ap (λ b. cond b answer.Removed answer.Absent) (sym e), 
 pub absent_reply : (h : History) (seq : ℕ) → is_pending seq (card_of h).results.pending ≡ false → (answer.Absent ≡ reply h (command.Remove seq)) × (unit_of h (command.Remove seq) ≡ None)
 unfolding reply unit_of
 absent_reply h seq e = (ap (λ b. cond b answer.Removed answer.Absent) (sym e), ap (λ b. cond {A = Option CardUnit} b (Some (remove seq)) None) e)
-
-pub may_remove : (h : History) (seq : ℕ) → is_pending seq (card_of h).results.pending ≡ true → May h (remove seq)
-unfolding May
-may_remove h seq e = e
 
 removed_step : (f : FullCard) (seq : ℕ) → record { card = record (f.card) { results = without_result seq f.card.results }; armed = unless_ended (remove seq ∷ []) f.armed } ≡ step_full f (remove seq)
 unfolding step_full after_unit armed_after
@@ -305,10 +284,6 @@ shows h f l e = record {
   eims_are = ap (λ (c : SmallCard). c.eims) (card_is h f e);
   results_are = ap (λ (c : SmallCard). c.results) (card_is h f e);
 }
-
--- the same of the history without a unit
-pub alone_shows : (f : FullCard) → IsValid f → IsCardOf (record { start = f; units = [] }) f.card.eid f.card.eims f.card.results
-alone_shows f v = shows (record { start = f; units = [] }) f (alone_legal f v) (alone_full f)
 
 pub joined_parts : (f : FullCard) (id address key : List ℕ) (ps : List Profile) (copy ms : EimList) (rs : Results) → ps ≡ f.card.profiles → copy ≡ f.card.eims → rs ≡ f.card.results → ms ≡ (do_eco copy (eco.Add id address key)).0
     → with_parts f ps ms rs f.armed ≡ step_full f (initial id address key)

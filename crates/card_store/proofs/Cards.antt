@@ -1,6 +1,5 @@
 -- Homes, and the cards that they stand for.
-use Rattle.std.proofs.Common.{◌≡◌, ⊎_elim, ℕ, Bool, true, List, [], length, sym, ap, subst, ◌∙◌, arith, inl, inr}
-use Rattle.sgp_fields.proofs.Steps.{some_is}
+use Rattle.std.proofs.Common.{◌≡◌, ⊎_elim, ℕ, Bool, true, List, [], sym, ap, subst, ◌∙◌, arith, inl, inr}
 use Rattle.chip_port.specs.Seen.{Seen}
 use Rattle.chip_port.specs.Rules.{Same}
 use Rattle.chip_port.proofs.Runs.{ran_none, ran_then, ran_most}
@@ -11,9 +10,9 @@ use Rattle.small_card.specs.Cards.{FullCard}
 use Rattle.small_card.specs.Valid.{IsValid}
 use Rattle.home_codec.specs.Homes.{HasFields}
 use Rattle.home_codec.proofs.Whole.{one_card}
+use Rattle.std.proofs.lemmas.Option.{same_Some}
 use Rattle.card_store.specs.Standing.{Stands, StandsForEither, IsSettled}
-use Rattle.card_store.specs.Changed.{changed, count_changed}
-use Rattle.card_store.specs.Staging.{Plan, IsPlan, IsStagedOn, Rewrites, Commits, planned}
+use Rattle.card_store.specs.Staging.{Plan, IsPlan, IsStagedOn, Rewrites, Commits}
 use Rattle.card_store.specs.Slots.{HomesKeepSlots}
 
 -- images with one home stand for the same card
@@ -23,7 +22,7 @@ stands_same f i j e s = record { blocks = s.blocks; there = e ∙ s.there; field
 -- an image stands for at most one card
 pub stands_for_one : (f g : FullCard) (i : List ℕ) → Stands f i → Stands g i → f ≡ g
 stands_for_one f g i a b =
-    let same : a.blocks ≡ b.blocks = some_is a.blocks b.blocks (sym a.there ∙ b.there) in
+    let same : a.blocks ≡ b.blocks = same_Some a.blocks b.blocks (sym a.there ∙ b.there) in
     one_card b.blocks f g (record { fields = subst (λ (l : List ℕ). HasFields f l) same a.fields; valid = a.valid }) (record { fields = b.fields; valid = b.valid })
 
 -- an idle chip whose home is a card's is settled on it
@@ -38,7 +37,7 @@ idle_settled f s idle fields valid = record {
 pub settled_idle : (f : FullCard) (s : Seen) → IsSettled f s → IsIdle s × HasFields f (home_in s.reads)
 settled_idle f s h =
     let front = home_magic s.reads h.stands.blocks h.stands.there in
-    let same : home_in s.reads ≡ h.stands.blocks = some_is _ _ (sym (home_shut s.reads front h.shut) ∙ h.stands.there) in
+    let same : home_in s.reads ≡ h.stands.blocks = same_Some _ _ (sym (home_shut s.reads front h.shut) ∙ h.stands.there) in
     (record { settled = h.alone; front = front; shut = h.shut }, subst (λ (l : List ℕ). HasFields f l) (sym same) h.stands.fields)
 
 -- a unit of blocks that make the new card of the old one's home
@@ -67,10 +66,6 @@ unwritten c p a told none plan settled staged =
       home_now = λ done. sym same;
       slots = λ done. subst (λ (l : List ℕ). HomesKeepSlots (home_in a.reads) l) same staged.slots;
     }
-
--- after a unit so many blocks read otherwise as it wrote
-pub counted : (p : Plan) (a b : Seen) → IsStagedOn p a → home_in b.reads ≡ planned p (home_in a.reads) → length p.blocks ≡ count_changed a b
-counted p a b staged now = ap (λ (l : List ℕ). length l) staged.each ∙ ap (λ (l : List ℕ). length (changed (home_in a.reads) l)) (sym now)
 
 -- what keeps the content and what a cut may leave keeps the chip settled
 pub settled_stays : (c : FullCard) (a b : Seen) → b.reads ≡ a.reads → Same a.leaves b.leaves → IsSettled c a → IsSettled c b

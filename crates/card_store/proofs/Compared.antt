@@ -1,8 +1,8 @@
 -- Blocks that are compared one after the other.
-use Rattle.std.proofs.Common.{◌≡◌, ◌⊎◌, inl, inr, ⊎_elim, ℕ, zero, suc, ◌+◌, ◌-◌, ◌*◌, ◌<◌, ◌≤◌, Bool, true, false, List, [], ◌∷◌, ◌++◌, length, take, drop, refl, sym, ◌∙◌, ap, subst, arith, append_assoc, length-append, length-drop, length-take}
+use Rattle.std.proofs.Common.{◌≡◌, ◌⊎◌, inl, inr, ⊎_elim, ℕ, zero, suc, ◌+◌, ◌-◌, ◌*◌, ◌<◌, ◌≤◌, true, false, List, [], ◌∷◌, ◌++◌, length, take, drop, refl, sym, ◌∙◌, ap, subst, arith, append_assoc, length-append, length-drop, length-take}
 use Rattle.std.specs.Prelude.{ltb, Result, Ok, Err, OnOk}
 use Rattle.std.proofs.Math.Seq.{take-add}
-use Rattle.std.proofs.lemmas.Bool.{cases_order}
+use Rattle.std.proofs.lemmas.Bool.{cases_order, cases_Bool}
 use Rattle.std.proofs.lemmas.Bool.Decides.{nat_tests}
 use Rattle.std.proofs.lemmas.List.{take-take, take_all, drop-take, drop-drop, take-append-drop, take-append-le, drop-append-le, length-take-le, append-nil, nil_from_length, take_at, drop_at}
 use Rattle.small_card.proofs.ListLemmas.{same_yes, same_no, same_self}
@@ -11,16 +11,12 @@ use Rattle.chip_port.specs.PastLaws.{length-put}
 use Rattle.chip_port.proofs.Apart.{drop_past}
 use Rattle.undo_journal.specs.Home.{put_back, block_of, same_octets, rises}
 use Rattle.undo_journal.specs.States.{Has}
-use Rattle.undo_journal.proofs.PutBack.{From, put_same, length_front}
+use Rattle.undo_journal.proofs.PutBack.{From, put_same}
 use Rattle.undo_journal.proofs.BlockByBlock.{others_back}
 use Rattle.card_store.specs.Changed.{blocks_from, differing, changed}
 use Rattle.card_store.specs.Comparing.{Between, AllDiffer, IsListed, IsCompared, Lists, Compared}
 use Rattle.card_store.specs.declared.ends.StageError.{StageError}
 use Rattle.card_store.specs.declared.changes.Changes.{Changes}
-
-bool_cases : (b : Bool) → (b ≡ true) ⊎ (b ≡ false)
-bool_cases true = inl refl
-bool_cases false = inr refl
 
 -- the first block isn't behind the last one
 pub between_le : (first : ℕ) (bs : List ℕ) (end : ℕ) → Between first bs end → first ≤ end
@@ -53,7 +49,7 @@ between_few first (b ∷ bs) end f = omega (arith, f.0, between_few (b + 1) bs e
 pub length-put_back : (n : ℕ) (blocks old h : List ℕ) → From n blocks → length h ≡ 172288 → 256 * length blocks ≤ length old → length (put_back blocks old h) ≡ 172288
 length-put_back n [] old h f size room = size
 length-put_back n (b ∷ bs) old h f size room =
-    let len : length (take 256 old) ≡ 256 = length_front 256 old (omega (arith, room)) in
+    let len : length (take 256 old) ≡ 256 = length-take-le 256 old (omega (arith, room)) in
     length-put_back (b + 1) bs (drop 256 old) (put h (256 * b) (take 256 old)) f.2 (length-put h (256 * b) (take 256 old) (omega (arith, len, f.1, size)) ∙ size) (omega (arith, length-drop 256 old, room))
 
 -- one block more is put back
@@ -179,14 +175,14 @@ above_from n b (c ∷ cs) f (inr has) = omega (arith, f.0, above_from (c + 1) b 
 part_put : (h : List ℕ) (at : ℕ) (block : List ℕ) (n : ℕ) → length block ≡ n → at + n ≤ length h → take n (drop at (put h at block)) ≡ block
 part_put h at block n len fits =
     let rest : drop at (put h at block) ≡ block ++ drop (at + length block) h =
-    ap (λ (l : List ℕ). drop at l) (append_assoc (take at h) block (drop (at + length block) h)) ∙ drop_at (take at h) (block ++ drop (at + length block) h) at (length_front at h (omega arith)) in
+    ap (λ (l : List ℕ). drop at l) (append_assoc (take at h) block (drop (at + length block) h)) ∙ drop_at (take at h) (block ++ drop (at + length block) h) at (length-take-le at h (omega arith)) in
     ap (λ (l : List ℕ). take n l) rest ∙ take_at block (drop (at + length block) h) n len
 
 -- what is listed reads otherwise than before
 listed_differs : (n b : ℕ) (blocks octets h was : List ℕ) → From n blocks → length h ≡ 172288 → 256 * length blocks ≤ length octets → AllDiffer blocks octets was → Has b blocks → block_of (put_back blocks octets h) b ≡ block_of was b → ⊥
 listed_differs n b [] octets h was f size room d has same = absurd has
 listed_differs n b (c ∷ cs) octets h was f size room d (inl e) same =
-    let len : length (take 256 octets) ≡ 256 = length_front 256 octets (omega (arith, room)) in
+    let len : length (take 256 octets) ≡ 256 = length-take-le 256 octets (omega (arith, room)) in
     let fits : 256 * c + 256 ≤ length h = omega (arith, size, f.1) in
     let h' = put h (256 * c) (take 256 octets) in
     let alone : Has c cs → ⊥ = (λ has. let above = above_from (c + 1) c cs f.2 has in omega (arith, above)) in
@@ -195,12 +191,12 @@ listed_differs n b (c ∷ cs) octets h was f size room d (inl e) same =
     ∙ part_put h (256 * c) (take 256 octets) 256 len fits in
     d.0 (sym now ∙ ap (λ (k : ℕ). block_of (put_back cs (drop 256 octets) h') k) (sym e) ∙ same ∙ ap (λ (k : ℕ). block_of was k) e)
 listed_differs n b (c ∷ cs) octets h was f size room d (inr has) same =
-    let len : length (take 256 octets) ≡ 256 = length_front 256 octets (omega (arith, room)) in
+    let len : length (take 256 octets) ≡ 256 = length-take-le 256 octets (omega (arith, room)) in
     let fits : 256 * c + 256 ≤ length h = omega (arith, size, f.1) in
     listed_differs (c + 1) b cs (drop 256 octets) (put h (256 * c) (take 256 octets)) was f.2 (length-put h (256 * c) (take 256 octets) (omega (arith, len, fits)) ∙ size) (omega (arith, length-drop 256 octets, room)) d.1 has same
 
 no_same : (xs ys : List ℕ) → (xs ≡ ys → ⊥) → same_octets xs ys ≡ false
-no_same xs ys other = elim (bool_cases (same_octets xs ys)) [ inl yes_same ↦ absurd (other (same_yes xs ys yes_same)) | inr not_same ↦ not_same ]
+no_same xs ys other = elim (cases_Bool (same_octets xs ys)) [ inl yes_same ↦ absurd (other (same_yes xs ys yes_same)) | inr not_same ↦ not_same ]
 
 -- the blocks that differ are those of a list, where each of the list differs and no other does
 differing_is : (k n : ℕ) (bs old new : List ℕ) → Between k bs (k + n) → ((b : ℕ) → Has b bs → block_of new b ≡ block_of old b → ⊥) → ((b : ℕ) → (Has b bs → ⊥) → k ≤ b → b < k + n → block_of new b ≡ block_of old b) → differing (blocks_from k n) old new ≡ bs
@@ -263,7 +259,7 @@ pub block_compared : (r : Result (Unit {0}) StageError) (c d : Changes) (b : ℕ
     → (same_octets (take (length piece) found) piece ≡ false → OnOk r (d.blocks ≡ c.blocks ++ b ∷ []))
     → (same_octets (take (length piece) found) piece ≡ false → OnOk r (d.octets ≡ c.octets ++ (piece ++ drop (length piece) found)))
     → (told → found ≡ block_of old b) → OnOk r (told → Compared b (b + 1) piece c d old)
-block_compared (Ok x) c d b found piece old told lt few same blocks octets read = λ t new size is. elim (bool_cases (same_octets (take (length piece) found) piece)) [
+block_compared (Ok x) c d b found piece old told lt few same blocks octets read = λ t new size is. elim (cases_Bool (same_octets (take (length piece) found) piece)) [
   | inl yes_same ↦ subst (λ (e : Changes). IsCompared e (b + 1) old (put new (256 * b) piece)) (sym (same yes_same)) (compared_same c b old new found piece lt size few (read t) yes_same is)
   | inr not_same ↦ compared_other c d b old new found piece lt size few (read t) not_same (blocks not_same) (octets not_same) is
 ]
@@ -274,7 +270,7 @@ pub block_listed : (r : Result (Unit {0}) StageError) (c d : Changes) (b : ℕ) 
     → (same_octets (take (length piece) found) piece ≡ false → OnOk r (d.blocks ≡ c.blocks ++ b ∷ []))
     → (same_octets (take (length piece) found) piece ≡ false → OnOk r (d.octets ≡ c.octets ++ (piece ++ drop (length piece) found)))
     → OnOk r (Lists b (b + 1) c d)
-block_listed (Ok x) c d b found piece len few same blocks octets = λ is. elim (bool_cases (same_octets (take (length piece) found) piece)) [
+block_listed (Ok x) c d b found piece len few same blocks octets = λ is. elim (cases_Bool (same_octets (take (length piece) found) piece)) [
   | inl yes_same ↦ subst (λ (e : Changes). IsListed e (b + 1)) (sym (same yes_same)) (listed_more c b (b + 1) (omega arith) is)
   | inr not_same ↦ listed_push c d b (piece ++ drop (length piece) found) (length-append piece (drop (length piece) found) ∙ omega (arith, length-drop (length piece) found, len, few)) (blocks not_same) (octets not_same) is
 ]

@@ -16,7 +16,7 @@ use Rattle.home_codec.specs.Numbers as numbers
 use Rattle.home_codec.specs.Ordering.{somes, insert, in_order_on}
 use Rattle.home_codec.proofs.Numbering.{number_holds}
 use Rattle.home_codec.proofs.Parts.{pending_fit}
-use Rattle.home_codec.proofs.Sorting.{in_order_every, somes_every}
+use Rattle.home_codec.proofs.Sorting.{in_order_every, somes_every, insert_every}
 use Rattle.card_store.specs.Comparing.{HasFront}
 use Rattle.card_store.specs.Seats.{AreApart, TellsNumbers, places_of}
 use Rattle.card_store.specs.Slots.{number_in, numbers_of, StandIn, KeepsSlots, HomesKeepSlots}
@@ -93,14 +93,6 @@ same_numbers before after home a b =
 -- results in rising numbers, in whatever order they stood, are apart
 abbrev Apart : PackageResult → PackageResult → Type 0
 Apart r s = r.seq ≢ s.seq
-
-insert_every : (P : PackageResult → Type 0) (s : PackageResult) (rs : List PackageResult) → Every P (insert s rs) → P s × Every P rs
-insert_every P s [] each = (each.0, tt)
-insert_every P s (r ∷ rs) each = by_value (insert_every P s rs) (nat_le s.seq r.seq) each
-  where
-    by_value : (Every P (insert s rs) → P s × Every P rs) → (b : Bool) → Every P (if b then s ∷ r ∷ rs else r ∷ insert s rs) → P s × Every P (r ∷ rs)
-    by_value rest true e = (e.0, e.1)
-    by_value rest false e = let k = rest e.1 in (k.0, (e.0, k.1))
 
 insert_apart : (s : PackageResult) (rs : List PackageResult) → EveryPair Apart (insert s rs) → Every (Apart s) rs × EveryPair Apart rs
 insert_apart s [] h = (tt, tt)

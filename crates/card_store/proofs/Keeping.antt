@@ -3,7 +3,7 @@ use Rattle.std.proofs.Common.{◌≡◌, ◌⊎◌, inl, inr, ℕ, zero, suc, �
 use Rattle.std.specs.Prelude.{◌≢◌, ◌==◌, ◌||◌, not, nat_le, nat_lt, Option, Some, None, position, slice_get, if◌then◌else◌}
 use Rattle.std.specs.List.{list_any, position_or_len}
 use Rattle.std.proofs.lemmas.Bool.{eq-eqb, eqb-true, or_cases, le-leb, lt-leb, ltb-false, cases_eq}
-use Rattle.std.proofs.lemmas.List.{take_all, get_or-set_same, get_or-set_other, append-nil, length-take-le, length-drop, drop_more}
+use Rattle.std.proofs.lemmas.List.{get_or-set_same, get_or-set_other, append-nil, length-take-le, length-drop, drop_more}
 use Rattle.std.proofs.lemmas.List.Quantifiers.{position-Some}
 use Rattle.std.proofs.lemmas.Option.{same_Some, slice_get_within, get_or_from_slice_get}
 use Rattle.std.proofs.Math.ListN.{length-set}
@@ -11,21 +11,16 @@ use Rattle.small_card.specs.Lists.{Every, EveryPair}
 use Rattle.small_card.specs.Ranges.{IsBefore}
 use Rattle.small_card.specs.Units.{has_seq}
 use Rattle.small_card.specs.declared.types.PackageResult.{PackageResult}
-use Rattle.small_card.proofs.ListLemmas.{every_filter}
+use Rattle.small_card.proofs.ListLemmas.{every_filter, any_at}
 use Rattle.home_codec.specs.Laying.{IsOther}
-use Rattle.home_codec.specs.Ordering.{somes, insert, in_order_on, in_order}
-use Rattle.home_codec.proofs.Seating.{insert_insert}
+use Rattle.home_codec.specs.Ordering.{somes, insert, in_order}
+use Rattle.home_codec.proofs.Seating.{insert_first, in_order_append}
 use Rattle.home_codec.proofs.Sorting.{in_order_every}
 use Rattle.card_store.specs.Slots.{number_in}
 use Rattle.card_store.specs.Seats.{AreSeats, seat_at, places_of, has_number, stands, is_gone, IsFreed, IsSlotOfNew, Stayed, Came, AreBelow, staying, Keeping, Filling}
-use Rattle.card_store.proofs.Numbers.{any_at, all_at, has_some, stands_at}
+use Rattle.card_store.proofs.Numbers.{all_at, has_some, stands_at}
 use Rattle.card_store.proofs.Kept.{lower_before, true_false}
-use Rattle.card_store.proofs.Seating.{somes_set, length-split, on_append, map_set, seat_free, length-places, below_next, take_next}
-
--- a result goes before the others or after them
-insert_first : (r : PackageResult) (rs ss : List PackageResult) → IsOther r ss → in_order_on (insert r rs) ss ≡ insert r (in_order_on rs ss)
-insert_first r rs [] other = refl
-insert_first r rs (s ∷ ss) other = ap (λ (l : List PackageResult). in_order_on l ss) (insert_insert s r rs other.0) ∙ insert_first r (insert s rs) ss other.1
+use Rattle.card_store.proofs.Seating.{somes_set, length-split, map_set, seat_free, length-places, below_next, take_next}
 
 others_behind : (r : PackageResult) (xs ys : List PackageResult) → IsOther r (xs ++ ys) → IsOther r ys
 others_behind r [] ys other = other
@@ -34,9 +29,9 @@ others_behind r (x ∷ xs) ys other = others_behind r xs ys other.1
 -- one more, wherever it stands
 in_order_with : (before behind : List PackageResult) (r : PackageResult) → IsOther r (before ++ behind) → in_order (before ++ r ∷ behind) ≡ insert r (in_order (before ++ behind))
 in_order_with before behind r other =
-    on_append [] before (r ∷ behind)
+    in_order_append [] before (r ∷ behind)
     ∙ insert_first r (in_order before) behind (others_behind r before behind other)
-    ∙ ap (insert r) (sym (on_append [] before behind))
+    ∙ ap (insert r) (sym (in_order_append [] before behind))
 
 -- a result between lower and higher ones
 insert_by : (b : Bool) (r s : PackageResult) (ss ts : List PackageResult) → b ≡ false → insert r ss ≡ ts → (if b then r ∷ s ∷ ss else s ∷ insert r ss) ≡ s ∷ ts
@@ -154,10 +149,6 @@ none_past t xs e =
       | false ↦ λ l k. any_past t xs (ltb-false (position_or_len t xs) (length xs) l)
     ] refl e
 
--- no seats
-pub none_kept : (slots : List (Option ℕ)) (pending : List PackageResult) (seats : List (Option ℕ)) → AreSeats pending [] seats → length (somes seats) ≡ 0 → ((slot : ℕ) → seat_at seats slot ≡ None) → Keeping slots pending 0 seats
-none_kept slots pending seats h none free = record { ordered = h; count = none; each = λ slot i e. absurd (cc (sym (free slot) ∙ e)) }
-
 -- a result stays
 pub keep_step : (slots : List (Option ℕ)) (pending : List PackageResult) (i s : ℕ) (r : PackageResult) (seats : List (Option ℕ)) → EveryPair IsBefore pending → length slots ≡ 8 → slice_get pending i ≡ Some r → position (has_number r.seq) slots ≡ Some s
     → Keeping slots pending i seats → Keeping slots pending (i + 1) (set seats s (Some i))
@@ -191,16 +182,6 @@ keep_skip slots pending i r seats is place h =
       ordered = subst (λ (l : List PackageResult). AreSeats pending l seats) (sym list) h.ordered;
       count = h.count ∙ ap length (sym list);
       each = λ slot k e. let o = h.each slot k e in (o.0, omega (arith, o.1));
-    }
-
--- all that stay have seats
-pub kept_filling : (slots : List (Option ℕ)) (pending : List PackageResult) (n : ℕ) (seats : List (Option ℕ)) → length pending ≤ n → Keeping slots pending n seats → Filling slots pending 0 seats
-kept_filling slots pending n seats le h =
-    let list : staying slots (take n pending) ≡ staying slots pending = ap (staying slots) (take_all n pending le) in
-    record {
-      ordered = subst (λ (l : List PackageResult). AreSeats pending l seats) list h.ordered;
-      count = h.count ∙ ap length list;
-      each = λ slot i e. inl (h.each slot i e).0;
     }
 
 -- there is room for a new result

@@ -3,7 +3,6 @@ use Rattle.std.proofs.Common.{◌≡◌, ◌⊎◌, ⊎_elim, ℕ, true, List, r
 use Rattle.std.specs.Prelude.{Result, Ok, Err, None}
 use Rattle.iot_bytes.specs.declared.memory.ReadError.{ReadError}
 use Rattle.iot_bytes.specs.declared.memory.ReadError.TheVariants.{Malformed, NoMemory}
-use Rattle.sgp_fields.proofs.Steps.{some_is}
 use Rattle.chip_port.specs.Seen.{Seen}
 use Rattle.chip_port.specs.Runs.{Ran}
 use Rattle.chip_port.proofs.Runs.{ran_none, ran_then, ran_most}
@@ -14,6 +13,7 @@ use Rattle.undo_journal.specs.declared.recovery.RecoverEnd.TheVariants as recove
 use Rattle.small_card.specs.Cards.{FullCard}
 use Rattle.home_codec.specs.Homes.{HasFields, IsHomeOf}
 use Rattle.home_codec.specs.FullCards.{full_card}
+use Rattle.std.proofs.lemmas.Option.{same_Some}
 use Rattle.card_store.specs.Standing.{Stands}
 use Rattle.card_store.specs.Looking.{Looks}
 use Rattle.card_store.specs.Loading.{StandsAs, IsAsBefore, IsKept, Loads, ReadsFields, ReadsCard, of_recovery, of_reading}
@@ -52,7 +52,7 @@ looks_add n b c l k i now = inl ((l.left k i).1 now)
 
 -- a card whose home was there has the home that recovery left
 recovered_fields : (d : FullCard) (a b : Seen) → Recovered a b → Stands d a.reads → HasFields d (home_in b.reads)
-recovered_fields d a b r s = let same : s.blocks ≡ home_in b.reads = some_is _ _ (sym s.there ∙ r.home_was) in subst (λ (l : List ℕ). HasFields d l) same s.fields
+recovered_fields d a b r s = let same : s.blocks ≡ home_in b.reads = same_Some _ _ (sym s.there ∙ r.home_was) in subst (λ (l : List ℕ). HasFields d l) same s.fields
 
 kept_after : (a b c : Seen) → Recovered a b → Looks 673 b c → IsKept a c
 kept_after a b c r l = record {

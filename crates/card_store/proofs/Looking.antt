@@ -1,26 +1,17 @@
 -- Looks at the chip, one after the other.
 use Rattle.std.proofs.Common.{◌≡◌, ℕ, ◌+◌, ◌*◌, ◌≤◌, true, List, ◌++◌, length, take, drop, refl, sym, ap, subst, ◌∙◌, arith, inl, ⊎_elim}
-use Rattle.std.specs.Prelude.{Ok, Option, Some, None}
+use Rattle.std.specs.Prelude.{Ok}
 use Rattle.std.proofs.Math.Seq.{take-add}
 use Rattle.std.proofs.lemmas.List.{take_all, drop-drop, length-drop}
-use Rattle.chip_port.specs.declared.chip.Tear.{Tear}
 use Rattle.chip_port.specs.Seen.{Seen, Tally, Passes, called}
 use Rattle.chip_port.specs.Rules.{IfTold, HasCause, ReadOut, Untouched}
-use Rattle.chip_port.specs.Runs.{Ran, Smooth, Went, Less}
-use Rattle.chip_port.proofs.Runs.{smooth_none, smooth_then, went_one}
+use Rattle.chip_port.specs.Runs.{Ran, Smooth, Went}
+use Rattle.chip_port.proofs.Runs.{smooth_none, smooth_then, went_one, less_more}
 use Rattle.undo_journal.specs.Home.{home_in, block_of}
 use Rattle.card_store.specs.Looking.{Looks}
 
-less_refl : (n : ℕ) (p : Option (ℕ × Tear)) → Less n p p
-less_refl n None = refl
-less_refl n (Some plan) = (plan.0, refl, omega arith, omega arith)
-
-less_most : (m n : ℕ) (p q : Option (ℕ × Tear)) → m ≤ n → Less m p q → Less n p q
-less_most m n None q le h = h
-less_most m n (Some plan) q le h = (h.0, h.1, h.2, omega (arith, h.3))
-
 smooth_most : (m n : ℕ) (a b : Tally) → m ≤ n → Smooth m a b → Smooth n a b
-smooth_most m n a b le s = record { more = s.more; most = omega (arith, s.most); plans = s.plans; cuts = s.cuts; breaks = s.breaks; cut = s.cut; plan = less_most m n a.plan b.plan le s.plan }
+smooth_most m n a b le s = record { more = s.more; most = omega (arith, s.most); plans = s.plans; cuts = s.cuts; breaks = s.breaks; cut = s.cut; plan = less_more m n a.plan b.plan le s.plan }
 
 pub looks_none : (s : Seen) → s.told ≡ true → Looks 0 s s
 looks_none s told = record { told = told; faults = refl; keeps = record { reads = refl; leaves = λ i. (λ was. was, λ was. was); marks = refl }; left = λ k i. (λ was. was, λ was. was); went = smooth_none s.tally }

@@ -9,14 +9,9 @@ use Rattle.small_card.specs.Units.{has_seq}
 use Rattle.small_card.specs.declared.types.PackageResult.{PackageResult}
 use Rattle.home_codec.specs.Ordering.{somes}
 use Rattle.home_codec.proofs.Sorting.{every_in_order}
+use Rattle.small_card.proofs.ListLemmas.{any_at}
 use Rattle.card_store.specs.Slots.{number_in, IsIn, numbers_of}
 use Rattle.card_store.specs.Seats.{AreSeats, seated, seat_at, places_of, has_number, stands, is_gone}
-
--- a list has an element that passes
-pub any_at : {X : Type 0} (p : X → Bool) (xs : List X) (i : ℕ) (x : X) → slice_get xs i ≡ Some x → p x ≡ true → list_any p xs ≡ true
-any_at p [] i x is e = absurd (cc is)
-any_at p (y ∷ ys) zero x is e = or_left (p y) (list_any p ys) (ap p (same_Some y x is) ∙ e)
-any_at p (y ∷ ys) (suc i) x is e = or_right (p y) (list_any p ys) (any_at p ys i x is e)
 
 -- each element passes
 pub all_at : {X : Type 0} (p : X → Bool) (xs : List X) (i : ℕ) (x : X) → list_all p xs ≡ true → slice_get xs i ≡ Some x → p x ≡ true

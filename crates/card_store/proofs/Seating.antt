@@ -6,7 +6,7 @@ use Rattle.std.proofs.lemmas.Option.{slice_get_within, get_or_from_slice_get, sl
 use Rattle.small_card.specs.Lists.{Every, EveryPair}
 use Rattle.small_card.specs.Ranges.{IsBefore}
 use Rattle.small_card.specs.declared.types.PackageResult.{PackageResult}
-use Rattle.home_codec.specs.Ordering.{somes, insert, in_order_on}
+use Rattle.home_codec.specs.Ordering.{somes}
 use Rattle.card_store.specs.Seats.{places_of, seated, seat_at}
 
 -- one more that is there, somewhere among the others
@@ -27,10 +27,6 @@ somes_set {X = X} (Some y ∷ xs) (suc s) x lt free =
 
 pub length-split : {X : Type 0} (old new : List X) (x : X) → Split old new x → length new ≡ length old + 1
 length-split old new x s = omega (arith, ap length s.old_is, ap length s.new_is, length-append s.before s.behind, length-append s.before (x ∷ s.behind))
-
-pub on_append : (rs xs ys : List PackageResult) → in_order_on rs (xs ++ ys) ≡ in_order_on (in_order_on rs xs) ys
-on_append rs [] ys = refl
-on_append rs (x ∷ xs) ys = on_append (insert x rs) xs ys
 
 pub map_set : (pending : List PackageResult) (seats : List (Option ℕ)) (s i : ℕ) (r : PackageResult) → slice_get pending i ≡ Some r → places_of pending (set seats s (Some i)) ≡ set (places_of pending seats) s (Some r)
 map_set pending [] s i r is = refl

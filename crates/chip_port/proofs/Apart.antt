@@ -1,13 +1,10 @@
 -- What lies apart from a write is as before.
 use Rattle.std.proofs.Common.{◌≡◌, ◌⊎◌, inl, inr, ℕ, ◌+◌, ◌-◌, ◌<◌, ◌≤◌, List, ◌++◌, length, take, drop, get_or, sym, ◌∙◌, ap, arith, length-append}
 use Rattle.std.proofs.lemmas.Grind.{common_steps}
-use Rattle.std.proofs.lemmas.List.{take-take, drop-drop, drop-take, get_or-take, get_or-drop, take-append-le, drop-append-le}
+use Rattle.std.proofs.lemmas.List.{take-take, drop-drop, drop-take, get_or-take, get_or-drop, take-append-le, drop-append-le, length-take-le}
 use Rattle.std.proofs.lemmas.Slice.{drop-append-drop}
 use Rattle.std.proofs.Math.Seq.{take-append-add}
 use Rattle.chip_port.specs.Rules.{put, Torn}
-
-length_front : (n : ℕ) (x : List ℕ) → n ≤ length x → length (take n x) ≡ n
-length_front n x le = grind (arith, common_steps)
 
 -- in front of a torn range
 pub torn_front : (at n k : ℕ) (d i : List ℕ) → k ≤ at → Torn at n d i → take k i ≡ take k d
@@ -42,7 +39,7 @@ range_apart at n from k old new t (inr above) = ap (λ (l : List ℕ). take k l)
 -- in front of octets that are put
 pub take_before : (k to : ℕ) (octets x : List ℕ) → k ≤ to → to ≤ length x → take k (put x to octets) ≡ take k x
 take_before k to octets x le in_x =
-    let len : length (take to x) ≡ to = length_front to x in_x in
+    let len : length (take to x) ≡ to = length-take-le to x in_x in
     take-append-le k (take to x ++ octets) (drop (to + length octets) x) (omega (arith, length-append (take to x) octets))
     ∙ take-append-le k (take to x) octets (omega arith) ∙ take-take k to x le
 
@@ -53,7 +50,7 @@ drop_past k to octets x le in_x = drop-append-drop (to + length octets) x (take 
 -- they stay where the front goes
 pub drop_put : (k to : ℕ) (octets x : List ℕ) → k ≤ to → to ≤ length x → drop k (put x to octets) ≡ put (drop k x) (to - k) octets
 drop_put k to octets x le in_x =
-    let len : length (take to x) ≡ to = length_front to x in_x in
+    let len : length (take to x) ≡ to = length-take-le to x in_x in
     let D = drop (to + length octets) x in
     let is : to ≡ k + (to - k) = omega arith in
     let past : k + (to - k + length octets) ≡ to + length octets = omega arith in
@@ -64,7 +61,7 @@ drop_put k to octets x le in_x =
 -- they stay where the end goes
 pub take_put : (k to : ℕ) (octets x : List ℕ) → to + length octets ≤ k → to + length octets ≤ length x → take k (put x to octets) ≡ put (take k x) to octets
 take_put k to octets x le in_x =
-    let len : length (take to x) ≡ to = length_front to x (omega arith) in
+    let len : length (take to x) ≡ to = length-take-le to x (omega arith) in
     let X = take to x ++ octets in
     let D = drop (to + length octets) x in
     let n = k - (to + length octets) in

@@ -6,7 +6,7 @@ use Rattle.chip_port.specs.declared.chip.Tear.{Tear}
 use Rattle.iot_bytes.specs.Causes.{Rose}
 use Rattle.chip_port.specs.Seen.{Seen, Tally, Marks, is_due, one_less, called, Passes, up}
 use Rattle.chip_port.specs.Rules.{Called, HasCause, IfTold, ReadOut, Written, Synced, Torn, Untouched, Answered, answered}
-use Rattle.chip_port.specs.Runs.{Less, LetsPass, IsDoomed, Smooth, Broke, Went, Ran, Ended, Closed}
+use Rattle.chip_port.specs.Runs.{Less, LetsPass, Smooth, Broke, Went, Ran, Ended, Closed}
 
 less_refl : (p : Option (ℕ × Tear)) → Less 0 p p
 less_refl None = refl
@@ -187,7 +187,7 @@ ran_then {m} {n} {ok} {P} {Q} {a} {b} {c} ab bc weaker = record {
   went = went_then m n ok a.tally b.tally c.tally ab.went bc.went;
 }
 
-less_more : (m n : ℕ) (p q : Option (ℕ × Tear)) → m ≤ n → Less m p q → Less n p q
+pub less_more : (m n : ℕ) (p q : Option (ℕ × Tear)) → m ≤ n → Less m p q → Less n p q
 less_more m n None q le h = h
 less_more m n (Some plan) q le h = (h.0, h.1, h.2, omega arith)
 
@@ -305,9 +305,3 @@ ran_closed (Err e) ab cause told settled = ran_unanswered ab cause told
 pub not_ok : {T E : Type 0} (result : Result T E) → IsErr result → is_ok result ≡ false
 not_ok (Ok x) h = sym h
 not_ok (Err e) h = refl
-
--- a cut chip, or one under a plan of 0 calls, stays so over every run
-pub went_doomed : (n : ℕ) (ok : Bool) (a b : Tally) → Went n ok a b → IsDoomed a → IsDoomed b
-unfolding Went
-went_doomed n true a b w doom = ⊎_elim (λ cut. inl (w.cut ∙ cut)) (λ due. inr (due_on n a.plan b.plan w.plan due)) doom
-went_doomed n false a b w doom = w.doomed doom

@@ -1,12 +1,12 @@
 -- Copying what was written since the last sync makes two images one.
-use Rattle.std.proofs.Common.{◌≡◌, ◌⊎◌, inl, inr, ℕ, ◌+◌, ◌-◌, ◌≤◌, ◌<◌, Bool, true, false, leb, subst, List, [], ◌∷◌, length, take, drop, get_or, refl, sym, ◌∙◌, ap, arith, replicate, reverse}
+use Rattle.std.proofs.Common.{◌≡◌, ◌⊎◌, inl, inr, ℕ, ◌+◌, ◌-◌, ◌≤◌, ◌<◌, true, leb, subst, List, [], ◌∷◌, length, take, drop, get_or, refl, sym, ◌∙◌, ap, arith, replicate, reverse}
 use Rattle.std.proofs.lemmas.Grind.{common_steps, same_number_lists}
 use Rattle.std.proofs.lemmas.Bool.Decides.{nat_tests}
 use Rattle.std.proofs.lemmas.List.{places, length-replicate, reverse-append, take_more}
+use Rattle.std.proofs.lemmas.Bool.{cases_Bool}
 use Rattle.chip_port.specs.declared.medium.Record.{Record}
 use Rattle.chip_port.specs.declared.medium.Record.TheVariants.{Write, Sync, Answer, Cut, PowerCycle}
 use Rattle.chip_port.specs.declared.medium.Survives.{Survives}
-use Rattle.chip_port.specs.declared.chip.Tear.{Tear}
 use Rattle.chip_port.specs.Rules.{put}
 use Rattle.chip_port.specs.Past.{Images, images, fits, zeros}
 use Rattle.chip_port.specs.PastLaws.{length-put, length-zeros, sized, fits_wrote}
@@ -19,10 +19,6 @@ get_or-put_outside image at octets n i inside short (inr above) = grind (arith, 
 
 get_or-part : (xs : List ℕ) (at n i : ℕ) → at ≤ i → i < at + n → get_or (take n (drop at xs)) (i - at) 0 ≡ get_or xs i 0
 get_or-part xs at n i from under = grind (arith, places)
-
-bool_cases : (b : Bool) → (b ≡ true) ⊎ (b ≡ false)
-bool_cases true = inl refl
-bool_cases false = inr refl
 
 -- an octet inside of a write is one of those written
 get_or-put_inside : (image : List ℕ) (at : ℕ) (octets : List ℕ) (i : ℕ) → at + length octets ≤ length image → at ≤ i → i < at + length octets → get_or (put image at octets) i 0 ≡ get_or octets (i - at) 0
@@ -68,13 +64,13 @@ agree_copied size at n kept older one two a =
   where
     same_at : (i : ℕ) → IsSettled i older → at + n ≤ size → length (take n (drop at two)) ≡ n → at + length (take n (drop at two)) ≤ length one
         → get_or (put one at (take n (drop at two))) i 0 ≡ get_or two i 0
-    same_at i settled inside e l = elim (bool_cases (leb (i + 1) at)) [
+    same_at i settled inside e l = elim (cases_Bool (leb (i + 1) at)) [
       | inl yes_below ↦
           let below : i + 1 ≤ at = grind (arith, nat_tests) in
           get_or-put_outside one at (take n (drop at two)) n i (omega (arith, a.one_size)) (omega (arith, e)) (inl below) ∙ a.same i (inl below, settled)
       | inr not_below ↦
           let from : at ≤ i = grind (arith, nat_tests) in
-          elim (bool_cases (leb (at + n) i)) [
+          elim (cases_Bool (leb (at + n) i)) [
             | inl yes_above ↦
                 let above : at + n ≤ i = grind (arith, nat_tests) in
                 get_or-put_outside one at (take n (drop at two)) n i (omega (arith, a.one_size)) (omega (arith, e)) (inr above) ∙ a.same i (inr above, settled)
@@ -93,13 +89,6 @@ agree_sync size older one two a = same_number_lists one two (a.one_size ∙ sym 
 
 pub agree_power_cycle : (size : ℕ) (survives : Survives) (older : List Record) (one two : List ℕ) → Agree size (PowerCycle survives ∷ older) one two → one ≡ two
 agree_power_cycle size survives older one two a = same_number_lists one two (a.one_size ∙ sym a.two_size) (λ i h. a.same i tt)
-
--- an answer and a cut write nothing
-pub agree_answer : (size cuts breaks : ℕ) (older : List Record) (one two : List ℕ) → Agree size (Answer cuts breaks ∷ older) one two → Agree size older one two
-agree_answer size cuts breaks older one two a = record { fit = a.fit; one_size = a.one_size; two_size = a.two_size; same = a.same }
-
-pub agree_cut : (size : ℕ) (tear : Tear) (older : List Record) (one two : List ℕ) → Agree size (Cut tear ∷ older) one two → Agree size older one two
-agree_cut size tear older one two a = record { fit = a.fit; one_size = a.one_size; two_size = a.two_size; same = a.same }
 
 -- the last of the first few records comes first in the reverse
 back_one : (records : List Record) (k : ℕ) (d r : Record) → k < length records → get_or records k d ≡ r → reverse (take (k + 1) records) ≡ r ∷ reverse (take k records)

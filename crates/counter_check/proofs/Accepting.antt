@@ -1,5 +1,5 @@
 -- A load is accepted exactly where all checks pass.
-use Rattle.std.proofs.Common.{◌≡◌, ℕ, ◌≤◌, Bool, true, false, cond, List, length, refl, ◌∙◌, ap, sym, subst, Option, None, Some, Result, Ok, Err}
+use Rattle.std.proofs.Common.{◌≡◌, ℕ, ◌≤◌, Bool, true, false, cond, List, length, refl, ◌∙◌, ap, sym, subst, Option, None, Some, Ok, Err}
 use Rattle.std.specs.Prelude.{nat_le}
 use Rattle.std.specs.List.{AllPass}
 use Rattle.std.specs.Option.{option_or}
@@ -8,15 +8,13 @@ use Rattle.sgp_values.specs.Ranges.{is_octet}
 use Rattle.sgp_values.proofs.Octets.{bounds_from_AllPass}
 use Rattle.small_card.specs.Checks.{refused, eim_refusal, later_refusal, value_refusal}
 use Rattle.small_card.specs.Histories.{History, card_of, kept}
-use Rattle.small_card.specs.Ranges.{IsSigned}
 use Rattle.small_card.specs.declared.types.Package.{Package}
 use Rattle.small_card.specs.declared.types.Refused.{Refused}
 use Rattle.small_card.specs.declared.types.Signed.{Signed}
 use Rattle.package_codec.specs.Checks.{most_octets, verdict_refusal, package_refusal, unless_refused, check_read, check}
 use Rattle.package_codec.specs.Reading.{signed_at}
-use Rattle.package_codec.specs.Spelling.{signed}
 use Rattle.package_codec.proofs.Packages.{signed_takes, signed_again}
-use Rattle.package_codec.proofs.Replying.{IsAccepted, accepted}
+use Rattle.package_codec.proofs.Replying.{accepted, neither}
 use Rattle.counter_check.specs.Loads.{IsAcceptable}
 
 -- what is accepted has a good verdict and isn't too long
@@ -49,14 +47,10 @@ acceptable h good bytes p octets e =
     let t = signed_takes bytes a.read.0 (bounds_from_AllPass bytes octets) a.read.1 in
     record { short = pass.short; verdict = pass.verdict; spelled = a.read.0; range = t.0; octets = t.1; load = a.read.2; values = a.values }
 
-none_left : (o p : Option Refused) → option_or o p ≡ None → (o ≡ None) × (p ≡ None)
-none_left None p e = (refl, e)
-none_left (Some r) p e = absurd cc
-
 no_refusal : (h : History) (p : Package) → value_refusal h p ≡ None → package_refusal h true p ≡ None
 unfolding value_refusal package_refusal
 no_refusal h p e =
-    let n = none_left (eim_refusal (card_of h) p) (later_refusal (card_of h) (kept h p.eim p.association) p) e in
+    let n = neither (eim_refusal (card_of h) p) (later_refusal (card_of h) (kept h p.eim p.association) p) e in
     rw (n.0, n.1) refl
 
 pub accepted_so : (h : History) (good : Bool) (bytes : List ℕ) (p : Package) → IsAcceptable h good bytes p → check h good bytes ≡ Ok p

@@ -1,25 +1,17 @@
 -- What the kept places find.
-use Rattle.std.proofs.Common.{◌≡◌, ℕ, ◌<◌, suc, zero, Bool, true, false, ◌&&◌, ◌||◌, ◌⊎◌, inl, inr, cond, List, [], ◌∷◌, ◌++◌, length, map, refl, ◌∙◌, ap, sym, arith, Option, None, Some, nat_lt, get_or}
+use Rattle.std.proofs.Common.{◌≡◌, ℕ, ◌<◌, suc, zero, Bool, true, false, ◌&&◌, ◌⊎◌, inl, inr, cond, List, [], ◌∷◌, ◌++◌, length, map, refl, ◌∙◌, ap, sym, arith, Option, None, Some, nat_lt, get_or}
 use Rattle.std.specs.Prelude.{◌==◌, position, slice_get}
 use Rattle.std.specs.List.{list_any, position_or_len}
 use Rattle.std.specs.Option.{is_some, unwrap_or}
-use Rattle.std.specs.Ordering.{nat_cmp, is_eq}
-use Rattle.std.specs.BTreeMap.{BTreeMap, is_at}
-use Rattle.std.specs.Cmp.{tied_then, unsigned_tied}
-use Rattle.std.proofs.lemmas.Bool.{cond-true, cond-false, eqb-true, eq-eqb, and_parts, lt-ltb, le-ltb, true≢false, or_right}
+use Rattle.std.specs.BTreeMap.{BTreeMap}
+use Rattle.std.proofs.lemmas.Bool.{cond-true, cond-false, eqb-true, eq-eqb, and_parts, lt-ltb, le-ltb, true≢false, false_from_ne_true}
 use Rattle.std.proofs.lemmas.List.Sums.{position_or_len_is}
 use Rattle.esipa_codec.specs.Records.{Key}
-use Rattle.eim_queue.specs.Places.{key_cmp, is_key, place_in, some_passes, ArePlaces}
+use Rattle.small_card.proofs.ListLemmas.{any_at}
+use Rattle.eim_queue.specs.Places.{is_key, place_in, some_passes, ArePlaces}
 
 flip : (m n : ℕ) → (m == n) ≡ (n == m)
 flip m n = grind arith
-
--- the test of a look-up is that of the key
-pub at_key : (association counter : ℕ) (k : Key) → is_at (key_cmp (association, counter)) k ≡ is_key association counter k
-at_key association counter k =
-    sym (tied_then (nat_cmp association k.0) (nat_cmp counter k.1))
-    ∙ ap (λ b. b && is_eq (nat_cmp counter k.1)) (unsigned_tied association k.0 ∙ flip association k.0)
-    ∙ ap (λ b. k.0 == association && b) (unsigned_tied counter k.1 ∙ flip counter k.1)
 
 -- the test of `settled` is that of the key
 pub flip_key : (association counter : ℕ) (k : Key) → (association == k.0 && counter == k.1) ≡ is_key association counter k
@@ -58,21 +50,17 @@ placed f places association counter xs i d h l e =
 same_place : (p : Option ℕ) (m n : ℕ) → p ≡ Some m → p ≡ Some n → m ≡ n
 same_place p m n h k = ap (λ o. unwrap_or o 0) (sym h ∙ k)
 
-pub not_true : (b : Bool) → (b ≡ true → ⊥) → b ≡ false
-not_true true f = absurd (f refl)
-not_true false f = refl
-
 -- the key isn't elsewhere
 pub alone : {X : Type 0} (f : X → Key) (places : BTreeMap Key ℕ) (association counter : ℕ) (xs : List X) (at i : ℕ) (d : X)
     → ArePlaces places (map f xs) → place_in places (association, counter) ≡ Some at → i < length xs → (i ≡ at → ⊥) → is_key association counter (f (get_or xs i d)) ≡ false
 alone f places association counter xs at i d h p l n =
-    not_true (is_key association counter (f (get_or xs i d))) (λ e. n (same_place (place_in places (association, counter)) i at (placed f places association counter xs i d h l e) p))
+    false_from_ne_true (is_key association counter (f (get_or xs i d))) (λ e. n (same_place (place_in places (association, counter)) i at (placed f places association counter xs i d h l e) p))
 
 -- the key isn't there
 pub absent : {X : Type 0} (f : X → Key) (places : BTreeMap Key ℕ) (association counter : ℕ) (xs : List X) (i : ℕ) (d : X)
     → ArePlaces places (map f xs) → place_in places (association, counter) ≡ None → i < length xs → is_key association counter (f (get_or xs i d)) ≡ false
 absent f places association counter xs i d h p l =
-    not_true (is_key association counter (f (get_or xs i d))) (λ e. absurd (none_some (sym p ∙ placed f places association counter xs i d h l e))) where
+    false_from_ne_true (is_key association counter (f (get_or xs i d))) (λ e. absurd (none_some (sym p ∙ placed f places association counter xs i d h l e))) where
       none_some : None ≡ Some i → ⊥
       none_some q = true≢false (sym (ap is_some q))
 
@@ -111,7 +99,7 @@ pub found_other : {X : Type 0} (f : X → Key) (places : BTreeMap Key ℕ) (asso
     → ArePlaces places (map f xs) → place_in places (association, counter) ≡ Some at → some_passes (λ x. is_key association counter (f x)) (slice_get xs at) ≡ false → position (λ x. is_key association counter (f x)) xs ≡ None
 found_other f places association counter xs at h p e =
     none_passes (λ x. is_key association counter (f x)) xs
-    (λ i d l. not_true (is_key association counter (f (get_or xs i d))) (λ t.
+    (λ i d l. false_from_ne_true (is_key association counter (f (get_or xs i d))) (λ t.
     let n = same_place (place_in places (association, counter)) i at (placed f places association counter xs i d h l t) p in
     true≢false (sym t ∙ ap (λ j. is_key association counter (f (get_or xs j d))) n ∙ shown_off (λ x. is_key association counter (f x)) xs at d e (omega (arith, n, l)))))
 
@@ -121,18 +109,13 @@ found_nowhere f places association counter xs h p =
     none_passes (λ x. is_key association counter (f x)) xs (λ i d l. absent f places association counter xs i d h p l)
 
 -- one more place is kept, of a key that isn't there
-any_there : {X : Type 0} (test : X → Bool) (xs : List X) (i : ℕ) (x : X) → slice_get xs i ≡ Some x → test x ≡ true → list_any test xs ≡ true
-any_there test [] i x e t = absurd (true≢false (sym (ap is_some e)))
-any_there test (y ∷ xs) zero x e t = ap (λ o. some_passes test o || list_any test xs) e ∙ ap (λ b. b || list_any test xs) t
-any_there test (y ∷ xs) (suc i) x e t = or_right (test y) (list_any test xs) (any_there test xs i x e t)
-
 pub record Keeps (old new : BTreeMap Key ℕ) (association counter at : ℕ) : Type 0 where
   pub places : (k : Key) → place_in new k ≡ cond (is_key association counter k) (Some at) (place_in old k)
 
 pub places_stay : (old new : BTreeMap Key ℕ) (association counter at : ℕ) (ks : List Key) → ArePlaces old ks → list_any (is_key association counter) ks ≡ false → Keeps old new association counter at → ArePlaces new ks
 places_stay old new association counter at ks h off p = λ i k e.
     p.places k
-    ∙ cond-false (is_key association counter k) (Some at) (place_in old k) (not_true (is_key association counter k) (λ t. true≢false (sym (any_there (is_key association counter) ks i k e t) ∙ off)))
+    ∙ cond-false (is_key association counter k) (Some at) (place_in old k) (false_from_ne_true (is_key association counter k) (λ t. true≢false (sym (any_at (is_key association counter) ks i k e t) ∙ off)))
     ∙ h i k e
 
 pushed_there : (ks : List Key) (k j : Key) (i : ℕ) → slice_get (ks ++ j ∷ []) i ≡ Some k → (slice_get ks i ≡ Some k) ⊎ ((i ≡ length ks) × (k ≡ j))

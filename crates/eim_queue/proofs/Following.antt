@@ -6,14 +6,14 @@ use Rattle.std.specs.Option.{is_some, unwrap_or}
 use Rattle.std.specs.Ordering.{nat_cmp}
 use Rattle.std.specs.Map.{lookup}
 use Rattle.std.specs.BTreeMap.{BTreeMap, get, is_at}
-use Rattle.std.proofs.lemmas.Bool.{cond-true, cond-false, eqb-true, lt-ltb, le-ltb, ltb-true, ltb-false, or_from, false≢true}
+use Rattle.std.proofs.lemmas.Bool.{cond-true, cond-false, eqb-true, lt-ltb, le-ltb, ltb-true, ltb-false, or_from, false≢true, false_from_ne_true}
 use Rattle.std.proofs.lemmas.List.{map-append, length-map, take_all}
 use Rattle.small_card.specs.Lists.{Every, greatest}
 use Rattle.esipa_codec.specs.Records.{Key}
 use Rattle.eim_queue.specs.Places.{is_key, place_in, ArePlaces}
 use Rattle.eim_queue.specs.Orders.{order_key, used_counters, settled, AreOrders}
 use Rattle.eim_queue.specs.declared.orders.Order.{Order}
-use Rattle.eim_queue.proofs.Finding.{Keeps, places_stay, places_more, alone, absent, flip_key, not_true}
+use Rattle.eim_queue.proofs.Finding.{Keeps, places_stay, places_more, alone, absent, flip_key}
 
 abbrev counters : List Order → List ℕ
 counters os = map (λ o. o.signed.«package».counter) os
@@ -140,7 +140,7 @@ not_used association counter (o ∷ os) l =
     let rest : List Order = filter (λ (x : Order). x.signed.«package».association == association) os in
     elim (o.signed.«package».association == association) as (λ b. greatest (counters (cond b (o ∷ rest) rest)) < counter → (b && o.signed.«package».counter == counter) || list_any (is_key association counter) (map order_key os) ≡ false) [
       | true ↦ λ m. or_from (o.signed.«package».counter == counter) (list_any (is_key association counter) (map order_key os))
-          (not_true (o.signed.«package».counter == counter) (λ e. omega (arith, m, eqb-true o.signed.«package».counter counter e)))
+          (false_from_ne_true (o.signed.«package».counter == counter) (λ e. omega (arith, m, eqb-true o.signed.«package».counter counter e)))
           (not_used association counter os (omega (arith, m)))
       | false ↦ λ m. not_used association counter os m
     ] l

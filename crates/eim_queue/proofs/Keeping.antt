@@ -1,15 +1,16 @@
 -- One more result received.
-use Rattle.std.proofs.Common.{◌≡◌, ℕ, ◌+◌, ◌≤◌, ◌<◌, suc, zero, Bool, true, false, not, ◌&&◌, ◌||◌, cond, List, [], ◌∷◌, ◌++◌, length, map, refl, ◌∙◌, ap, sym, subst, arith, Option, None, Some, nat_lt, get_or, set}
+use Rattle.std.proofs.Common.{◌≡◌, ℕ, ◌+◌, ◌≤◌, ◌<◌, suc, zero, Bool, true, false, ◌&&◌, ◌||◌, List, [], ◌∷◌, ◌++◌, length, map, refl, ◌∙◌, ap, sym, subst, arith, None, Some, nat_lt, get_or, set}
 use Rattle.std.specs.Prelude.{◌==◌, position, Result, Ok, Err, OnOk, OnErr}
-use Rattle.std.specs.List.{list_any, cons_option, filter_map, position_or_len}
-use Rattle.std.proofs.lemmas.Bool.{cond_both, cond-true, cond-false, eqb-true, eq-eqb, and_parts, or_parts, or_right, lt-ltb, le-ltb, true≢false, false≢true, ltb-false}
+use Rattle.std.specs.List.{list_any, cons_option, filter_map}
+use Rattle.std.proofs.lemmas.Bool.{cond_both, cond-true, cond-false, eqb-true, eq-eqb, and_parts, or_parts, or_right, lt-ltb, true≢false, false≢true}
 use Rattle.std.proofs.lemmas.List.{map-append}
 use Rattle.std.proofs.lemmas.List.Quantifiers.{position-Some}
 use Rattle.std.proofs.Math.Seq.{map-set_same}
 use Rattle.small_card.specs.Lists.{Every, EveryPair}
 use Rattle.small_card.specs.declared.types.PackageResult.{PackageResult}
-use Rattle.small_card.proofs.ListLemmas.{every_push, every_mono, every_both, every_all, pair_push, any_push, none_every, every_none}
+use Rattle.small_card.proofs.ListLemmas.{every_push, every_mono, every_both, every_all, pair_push, any_push, none_every, every_none, nowhere}
 use Rattle.esipa_codec.specs.Records.{Key, key, keys, is_of, is_recorded, greater, record_of, records_of}
+use Rattle.esipa_codec.proofs.Recording.{own_key, late_greater}
 use Rattle.eim_queue.specs.Places.{is_key}
 use Rattle.eim_queue.specs.Records.{AreRecords}
 
@@ -57,9 +58,6 @@ no_record association counter (r ∷ older) e =
 other_record : (r s : PackageResult) (received : List PackageResult) → is_of s.association s.counter r ≡ false → record_of s.association s.counter (r ∷ received) ≡ record_of s.association s.counter received
 unfolding record_of
 other_record r s received e = cond-false (is_of s.association s.counter r) (Some (greater r (record_of s.association s.counter received))) (record_of s.association s.counter received) e
-
-own_key : (r : PackageResult) → is_of r.association r.counter r ≡ true
-own_key r = ap (λ b. b && r.counter == r.counter) (eq-eqb r.association r.association refl) ∙ eq-eqb r.counter r.counter refl
 
 -- the record of its own key is the greater
 own_record : (r : PackageResult) (received : List PackageResult) → record_of r.association r.counter (r ∷ received) ≡ Some (greater r (record_of r.association r.counter received))
@@ -185,10 +183,6 @@ greater_new : (r s : PackageResult) → s.seq < r.seq → greater r (Some s) ≡
 unfolding greater
 greater_new r s l = cond-true (nat_lt s.seq r.seq) r s (lt-ltb s.seq r.seq l)
 
-greater_old : (r s : PackageResult) → r.seq ≤ s.seq → greater r (Some s) ≡ s
-unfolding greater
-greater_old r s l = cond-false (nat_lt s.seq r.seq) r s (le-ltb s.seq r.seq l)
-
 -- a greater number takes the record's place
 pub replaced_records : (rows received : List PackageResult) (at : ℕ) (r s : PackageResult) → AreRecords rows received → IsPlace rows at r s → s.seq < r.seq → AreRecords (set rows at r) (r ∷ received)
 replaced_records rows received at r s h p l = record {
@@ -207,23 +201,8 @@ kept_records rows received at r s h p l =
       each = subst (λ (xs : List PackageResult). Every (λ x. record_of x.association x.counter (r ∷ received) ≡ Some x) xs) same_rows
           (set_every (λ x. record_of x.association x.counter (r ∷ received) ≡ Some x) (is_of r.association r.counter) rows at s s p.inside (ap (is_of r.association r.counter) p.there ∙ p.its)
           (rows_apart r.association r.counter rows received h) (others_stay rows received r h)
-          (ap (λ n. record_of n.0 n.1 (r ∷ received)) (sym (same_key r s p.its)) ∙ place_record rows received at r s h p ∙ ap (λ x. Some x) (greater_old r s l)));
+          (ap (λ n. record_of n.0 n.1 (r ∷ received)) (sym (same_key r s p.its)) ∙ place_record rows received at r s h p ∙ ap (λ x. Some x) (late_greater r s l)));
     }
-
-nowhere_past : {X : Type 0} (t : X → Bool) (xs : List X) → length xs ≤ position_or_len t xs → Every (λ x. t x ≡ false) xs
-nowhere_past t [] h = tt
-nowhere_past t (x ∷ xs) h =
-    elim (t x) as (λ b. t x ≡ b → suc (length xs) ≤ cond (not b) (1 + position_or_len t xs) 0 → (t x ≡ false) × Every (λ y. t y ≡ false) xs) [
-      | true ↦ λ e l. absurd (omega (arith, l))
-      | false ↦ λ e l. (e, nowhere_past t xs (omega (arith, l)))
-    ] refl h
-
-pub nowhere : {X : Type 0} (t : X → Bool) (xs : List X) → position t xs ≡ None → Every (λ x. t x ≡ false) xs
-nowhere t xs e =
-    elim (nat_lt (position_or_len t xs) (length xs)) as (λ b. nat_lt (position_or_len t xs) (length xs) ≡ b → cond {A = Option ℕ} b (Some (position_or_len t xs)) None ≡ None → Every (λ x. t x ≡ false) xs) [
-      | true ↦ λ l k. absurd (cc)
-      | false ↦ λ l k. nowhere_past t xs (ltb-false (position_or_len t xs) (length xs) l)
-    ] refl e
 
 -- a place that was found
 pub found_place : (rows shown seen : List PackageResult) (at : ℕ) (r s : PackageResult) → shown ≡ rows → seen ≡ rows → position (is_of r.association r.counter) shown ≡ Some at → s ≡ get_or seen at s → IsPlace rows at r s

@@ -21,11 +21,11 @@ use Rattle.esipa_codec.specs.declared.messages.ToEim.TheVariants as to_eim
 use Rattle.esipa_codec.specs.declared.messages.ToIpa.{ToIpa}
 use Rattle.esipa_codec.specs.declared.messages.ToIpa.TheVariants as to_ipa
 use Rattle.package_codec.specs.Spelling.{signed}
+use Rattle.small_card.proofs.ListLemmas.{nowhere}
 use Rattle.eim_queue.specs.Records.{AreRecords}
 use Rattle.eim_queue.specs.Orders.{order_key, used_counters, settled}
 use Rattle.eim_queue.specs.Queues.{Queue, IsEim, IfServed, kept_order}
 use Rattle.eim_queue.specs.declared.orders.Order.{Order}
-use Rattle.eim_queue.proofs.Keeping.{nowhere}
 use Rattle.eim_queue.proofs.Following.{same_used, settled_keys, given_up_keys}
 
 no_records : AreRecords [] []

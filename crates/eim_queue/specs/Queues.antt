@@ -1,10 +1,10 @@
 -- What a queue in code keeps, and which eIM it stands for.
 use Rattle.std.specs.Prelude.{◌≡◌, ◌≤◌, ℕ, List, length, map, IfSome, Option}
 use Rattle.small_card.specs.Lists.{Every, greatest}
-use Rattle.small_card.specs.Ranges.{IsSigned, IsNumber, greatest_counter}
+use Rattle.small_card.specs.Ranges.{IsSigned}
 use Rattle.small_card.specs.declared.types.PackageResult.{PackageResult}
 use Rattle.small_card.specs.declared.types.Refused.{Refused}
-use Rattle.esipa_codec.specs.Eims.{EimState, Order as Ordered, last_of, package_of, waits}
+use Rattle.esipa_codec.specs.Eims.{EimState, Order as Ordered, last_of, package_of, waits, IsBinding}
 use Rattle.esipa_codec.specs.declared.ends.Binding.{Binding}
 use Rattle.esipa_codec.specs.declared.ends.OrderEnd.{OrderEnd}
 use Rattle.esipa_codec.specs.declared.ends.OrderEnd.TheVariants.{Ordered as GotCounter, Unbound, CounterSpent, NoMemory as NoRoom}
@@ -28,10 +28,6 @@ pub record Queue : Type 0 where
 
 abbrev pub queue_of : Inside → Queue
 queue_of q = record { id = q.id; eid = q.eid; bound = q.bound; orders = q.orders; records = q.records; refusal = q.refusal }
-
--- Numbers of the binding are in range.
-abbrev pub IsBinding : Binding → Type 0
-IsBinding b = IsNumber b.association × (b.last ≤ greatest_counter)
 
 -- The packages and what the queue is bound to are in range, and counters go on behind those of the
 -- orders.

@@ -1,6 +1,5 @@
 -- An answer that is read was spelled so, and one that is spelled is read again.
 use Rattle.std.proofs.Common.{◌≡◌, ℕ, ◌+◌, ◌≤◌, List, [], ◌++◌, length, Some, refl, ap, arith, length-append}
-use Rattle.sgp_der.proofs.Lengths.{IsBytes}
 use Rattle.sgp_der.proofs.Elements.{element_few}
 use Rattle.sgp_fields.specs.Alone.{number_alone, number_alone_of}
 use Rattle.sgp_fields.proofs.Codecs.{IsCodec, IsListed, IsSpelled, IsTaken}
@@ -14,6 +13,7 @@ use Rattle.result_codec.specs.Spelling.{eim_lines, result, refusal}
 use Rattle.result_codec.proofs.EimListCodec.{eim_lines_codec, eim_lines_few}
 use Rattle.result_codec.proofs.ResultCodec.{result_codec, result_few}
 use Rattle.result_codec.proofs.RefusalCodec.{refusal_codec, refusal_few}
+use Rattle.iot_bytes.proofs.Framing.{IsBytes}
 use Rattle.es10_codec.specs.Spelling.{results, answer}
 use Rattle.es10_codec.specs.Reading.{answer_of, answer_at}
 use Rattle.es10_codec.proofs.Short.{alone_few}

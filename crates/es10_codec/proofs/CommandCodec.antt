@@ -1,7 +1,6 @@
 -- A command that is read was spelled so, and one that is spelled is read again.
 use Rattle.std.proofs.Common.{◌≡◌, ℕ, ◌≤◌, Bool, List, [], ◌++◌, length, Some, refl, ap, subst, arith, length-append}
 use Rattle.sgp_der.specs.Element.{element}
-use Rattle.sgp_der.proofs.Lengths.{IsBytes}
 use Rattle.sgp_der.proofs.Fields.{on_some, only_again}
 use Rattle.sgp_values.proofs.Octets.{AllPass-from_bounds}
 use Rattle.sgp_values.specs.Eids.{IsEid}
@@ -12,7 +11,7 @@ use Rattle.sgp_fields.proofs.Codecs.{IsCodec, IsListed, IsSpelled, IsTaken}
 use Rattle.sgp_fields.proofs.Elements.{on_tag, whole_codec, short_from_bytes}
 use Rattle.sgp_fields.proofs.AloneCodec.{card_number_alone_codec, on_made, made_again}
 use Rattle.sgp_fields.proofs.ConfigCodec.{config_codec, config_few}
-use Rattle.sgp_fields.proofs.Steps.{some_is, on_value, on_only, value_again}
+use Rattle.sgp_fields.proofs.Steps.{on_value, on_only, value_again}
 use Rattle.sgp_fields.proofs.ValueCodecs.{eid_codec, flag_codec, flag_few, mark_codec}
 use Rattle.sgp_fields.proofs.Sizes.{short, long}
 use Rattle.small_card.specs.Ranges.{IsCommand, IsTable}
@@ -22,6 +21,8 @@ use Rattle.small_card.specs.declared.types.Command.TheVariants as order
 use Rattle.result_codec.specs.Spelling.{profiles}
 use Rattle.result_codec.specs.Reading.{profiles_at}
 use Rattle.result_codec.proofs.TableCodec.{profiles_codec, profiles_few}
+use Rattle.std.proofs.lemmas.Option.{same_Some}
+use Rattle.iot_bytes.proofs.Framing.{IsBytes}
 use Rattle.es10_codec.specs.Spelling.{personalise_content, load_content, command, IsShort, IsSpellable}
 use Rattle.es10_codec.specs.Reading.{personalise_of, load_of, initial, command_of, command_at}
 use Rattle.es10_codec.proofs.Short.{inner_short, alone_few}
@@ -37,7 +38,7 @@ personalise_taken content c fits e =
     on_some (profiles_at inner) _ c e2 (λ rows r e3.
     let t = profiles_codec.takes inner rows w.within r in
     let whole : content ≡ element 0x80 eid ++ element 0xa1 (profiles rows) = cc (a.parts, w.octets, t.0) in
-    subst (λ (x : Command). IsTaken command IsSpellable 0xa0 content x) (some_is _ _ e3) (record { octets = ap (element 0xa0) whole; fits = record { range = (a.fits, t.1); short = tt } }))))
+    subst (λ (x : Command). IsTaken command IsSpellable 0xa0 content x) (same_Some _ _ e3) (record { octets = ap (element 0xa0) whole; fits = record { range = (a.fits, t.1); short = tt } }))))
 
 load_taken : (content : List ℕ) (c : Command) → IsBytes content → length content ≤ 16777215 → load_of content ≡ Some c → Taken 0xa1 content c
 unfolding Taken load_of command IsCommand IsShort load_content
@@ -46,7 +47,7 @@ load_taken content c fits few e =
     on_only 0x81 rest _ c a.others e1 (λ bytes w e2.
     let whole : content ≡ element 0x80 (flag_content good) ++ element 0x81 bytes = cc (a.parts, w.octets) in
     let fit : length (element 0x80 (flag_content good) ++ element 0x81 bytes) ≤ 16777215 = subst (λ (x : List ℕ). length x ≤ 16777215) whole few in
-    subst (λ (x : Command). IsTaken command IsSpellable 0xa1 content x) (some_is _ _ e2) (record { octets = ap (element 0xa1) whole; fits = record { range = AllPass-from_bounds bytes w.within; short = fit } })))
+    subst (λ (x : Command). IsTaken command IsSpellable 0xa1 content x) (same_Some _ _ e2) (record { octets = ap (element 0xa1) whole; fits = record { range = AllPass-from_bounds bytes w.within; short = fit } })))
 
 command_taken : (tag : ℕ) (content : List ℕ) (c : Command) → IsBytes content → length content ≤ 16777215 → command_of tag content ≡ Some c → IsTaken command IsSpellable tag content c
 unfolding Taken command_of command IsCommand IsShort

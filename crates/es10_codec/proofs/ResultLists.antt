@@ -1,7 +1,6 @@
 -- A list of results that is read was spelled so, and one that is spelled is read again.
 use Rattle.std.proofs.Common.{◌≡◌, ℕ, ◌≤◌, List, length, Some, subst, arith}
 use Rattle.std.specs.List.{flat_map}
-use Rattle.sgp_der.proofs.Lengths.{IsBytes}
 use Rattle.sgp_der.proofs.Fields.{on_some, guard_some}
 use Rattle.sgp_fields.specs.Elements.{tagged_as}
 use Rattle.sgp_fields.specs.Lists.{list_at}
@@ -16,6 +15,7 @@ use Rattle.small_card.proofs.PairTests.{rising_pairs, pairs_take, pairs_again}
 use Rattle.result_codec.specs.Spelling.{result}
 use Rattle.result_codec.specs.Reading.{result_of}
 use Rattle.result_codec.proofs.ResultCodec.{result_listed, result_few}
+use Rattle.iot_bytes.proofs.Framing.{IsBytes}
 use Rattle.es10_codec.specs.Spelling.{results}
 use Rattle.es10_codec.specs.Reading.{results_at}
 

@@ -5,14 +5,14 @@ use Rattle.sgp_der.specs.Element.{element}
 use Rattle.sgp_der.specs.Number.{uint, uint_of}
 use Rattle.sgp_der.proofs.Elements.{element_split, element_few}
 use Rattle.sgp_der.proofs.Values.{uint_few, uint_again}
-use Rattle.sgp_fields.proofs.Steps.{some_is}
 use Rattle.small_card.specs.declared.types.Answer.{Answer}
 use Rattle.small_card.specs.declared.types.Answer.TheVariants as reply
+use Rattle.std.proofs.lemmas.Option.{same_Some}
 use Rattle.es10_codec.specs.Spelling.{answer, stop_content, stopped}
 use Rattle.es10_codec.specs.Laws.{SameStop}
 
 uint_is : (n m : ℕ) → n < 2 ^ 64 → m < 2 ^ 64 → uint n ≡ uint m → n ≡ m
-uint_is n m low_n low_m e = some_is n m (sym (uint_again n low_n) ∙ ap uint_of e ∙ uint_again m low_m)
+uint_is n m low_n low_m e = same_Some n m (sym (uint_again n low_n) ∙ ap uint_of e ∙ uint_again m low_m)
 
 content_few : (s n : ℕ) → s < 2 ^ 64 → n < 2 ^ 64 → length (stop_content s n) ≤ 28
 unfolding stop_content

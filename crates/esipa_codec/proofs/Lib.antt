@@ -1,5 +1,5 @@
 mod Computing
 mod Counters
-mod Recording
+pub mod Recording
 pub mod ToEimCodec
 pub mod ToIpaCodec

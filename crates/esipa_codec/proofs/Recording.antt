@@ -71,10 +71,10 @@ record_stays (order body) e association counter x k = as_before association coun
 record_stays skip e association counter x k = as_before association counter x e.received k
 record_stays (message m) e association counter x k = heard_record association counter x m e k
 
-own_key : (r : PackageResult) → is_of r.association r.counter r ≡ true
+pub own_key : (r : PackageResult) → is_of r.association r.counter r ≡ true
 own_key r = ap (λ b. b && r.counter == r.counter) (eq-eqb r.association r.association refl) ∙ eq-eqb r.counter r.counter refl
 
-late_greater : (r s : PackageResult) → r.seq ≤ s.seq → greater r (Some s) ≡ s
+pub late_greater : (r s : PackageResult) → r.seq ≤ s.seq → greater r (Some s) ≡ s
 unfolding greater
 late_greater r s l =
     cond_both (nat_lt s.seq r.seq) r s (λ y. y ≡ s) (λ b. let k = ltb-true s.seq r.seq b in absurd (omega (arith, l, k))) (λ b. refl)

@@ -1,6 +1,5 @@
 -- A message to an eIM that is read was spelled so, and one that is spelled is read again.
 use Rattle.std.proofs.Common.{◌≡◌, ℕ, ◌≤◌, List, length, Some, refl, arith}
-use Rattle.sgp_der.proofs.Lengths.{IsBytes}
 use Rattle.sgp_values.specs.Eids.{IsEid}
 use Rattle.sgp_fields.proofs.Codecs.{IsCodec, IsListed, IsSpelled, IsTaken}
 use Rattle.sgp_fields.proofs.AloneCodec.{on_made, made_again}
@@ -12,6 +11,7 @@ use Rattle.sgp_values.specs.Reading.{eid_of}
 use Rattle.result_codec.specs.Spelling.{result, refusal}
 use Rattle.result_codec.proofs.ResultCodec.{result_codec, result_few}
 use Rattle.result_codec.proofs.RefusalCodec.{refusal_codec, refusal_few}
+use Rattle.iot_bytes.proofs.Framing.{IsBytes}
 use Rattle.esipa_codec.specs.Ranges.{IsToEim}
 use Rattle.esipa_codec.specs.Reading.{to_eim_of, to_eim_at}
 use Rattle.esipa_codec.specs.Spelling.{poll_content, to_eim}

@@ -2,7 +2,6 @@
 use Rattle.std.proofs.Common.{◌≡◌, ℕ, ◌≤◌, List, [], length, Some, refl, subst, arith}
 use Rattle.sgp_der.specs.Number.{uint}
 use Rattle.sgp_der.proofs.Elements.{element_few}
-use Rattle.sgp_der.proofs.Lengths.{IsBytes}
 use Rattle.sgp_values.proofs.Octets.{AllPass-from_bounds}
 use Rattle.small_card.specs.Ranges.{IsNumber}
 use Rattle.sgp_fields.specs.Alone.{number_alone}
@@ -10,8 +9,9 @@ use Rattle.sgp_fields.proofs.AloneCodec.{card_number_alone_codec, on_made, made_
 use Rattle.sgp_fields.proofs.Codecs.{IsCodec, IsListed, IsSpelled, IsTaken}
 use Rattle.sgp_fields.proofs.Elements.{on_tag, whole_codec}
 use Rattle.sgp_fields.proofs.Sizes.{short, long, number_few}
-use Rattle.sgp_fields.proofs.Steps.{some_is}
 use Rattle.sgp_fields.proofs.ValueCodecs.{mark_codec}
+use Rattle.std.proofs.lemmas.Option.{same_Some}
+use Rattle.iot_bytes.proofs.Framing.{IsBytes}
 use Rattle.esipa_codec.specs.Ranges.{IsToIpa}
 use Rattle.esipa_codec.specs.Reading.{to_ipa_of, to_ipa_at}
 use Rattle.esipa_codec.specs.Spelling.{to_ipa}
@@ -20,7 +20,7 @@ use Rattle.esipa_codec.specs.declared.messages.ToIpa.TheVariants as down
 
 package_taken : (content : List ℕ) (m : ToIpa) → IsBytes content → length content ≤ 16777215 → Some (down.Package content) ≡ Some m → IsTaken to_ipa IsToIpa 0x80 content m
 unfolding to_ipa IsToIpa
-package_taken content m fits few e = subst (λ (x : ToIpa). IsTaken to_ipa IsToIpa 0x80 content x) (some_is _ _ e) (record { octets = refl; fits = record { few = few; each = AllPass-from_bounds content fits } })
+package_taken content m fits few e = subst (λ (x : ToIpa). IsTaken to_ipa IsToIpa 0x80 content x) (same_Some _ _ e) (record { octets = refl; fits = record { few = few; each = AllPass-from_bounds content fits } })
 
 taken : (tag : ℕ) (content : List ℕ) (m : ToIpa) → IsBytes content → length content ≤ 16777215 → to_ipa_of tag content ≡ Some m → IsTaken to_ipa IsToIpa tag content m
 unfolding to_ipa_of to_ipa IsToIpa

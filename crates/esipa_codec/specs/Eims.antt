@@ -1,9 +1,9 @@
 -- An eIM: what it is bound to, all orders, all results of its identifier that it received, and all
 -- refusals. Its records and the orders that wait are looked up.
-use Rattle.std.specs.Prelude.{ℕ, ◌+◌, List, [], ◌∷◌, ◌++◌, map, filter, not, nat_lt, ◌==◌, ◌&&◌, Bool, true, false, if◌then◌else◌, Option, Some, None}
+use Rattle.std.specs.Prelude.{ℕ, ◌+◌, ◌≤◌, List, [], ◌∷◌, ◌++◌, map, filter, not, nat_lt, ◌==◌, ◌&&◌, Bool, true, false, if◌then◌else◌, Option, Some, None}
 use Rattle.std.specs.List.{find}
 use Rattle.small_card.specs.Lists.{same, greatest}
-use Rattle.small_card.specs.Ranges.{greatest_counter}
+use Rattle.small_card.specs.Ranges.{IsNumber, greatest_counter}
 use Rattle.small_card.specs.declared.types.Body.{Body}
 use Rattle.small_card.specs.declared.types.PackageResult.{PackageResult}
 use Rattle.small_card.specs.declared.types.Refused.{Refused}
@@ -21,6 +21,10 @@ use Rattle.esipa_codec.specs.declared.ends.OrderEnd.{OrderEnd}
 use Rattle.esipa_codec.specs.declared.ends.OrderEnd.TheVariants as order_answer
 use Rattle.esipa_codec.specs.declared.ends.MessageEnd.{MessageEnd}
 use Rattle.esipa_codec.specs.declared.ends.MessageEnd.TheVariants as answer
+
+-- Numbers of the binding are in range.
+abbrev pub IsBinding : Binding → Type 0
+IsBinding b = IsNumber b.association × (b.last ≤ greatest_counter)
 
 -- An order: the association and counter of its package, its operations, and whether it was given up.
 pub record Order : Type 0 where

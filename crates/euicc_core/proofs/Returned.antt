@@ -1,12 +1,12 @@
 -- Settling where every image stood for some card.
 use Rattle.std.proofs.Common.{◌≡◌, ⊎_elim, ℕ, ◌+◌, List, sym, ap, subst, ◌∙◌, arith, inl, inr}
 use Rattle.std.specs.Prelude.{Option}
-use Rattle.sgp_fields.proofs.Steps.{some_is}
 use Rattle.chip_port.specs.Seen.{Seen, Marks}
 use Rattle.chip_port.specs.Rules.{Sound}
 use Rattle.small_card.specs.Cards.{FullCard}
 use Rattle.card_store.specs.Standing.{Stands}
 use Rattle.card_store.proofs.Cards.{stands_for_one}
+use Rattle.std.proofs.lemmas.Option.{same_Some}
 use Rattle.euicc_core.specs.Settling.{WokeAs, WokeAsNone, IsUnwoken, IsUnlit, IsRelit, Cycles, Recognises, StandsForSome, IsBack, IsStillOff, Returns}
 use Rattle.euicc_core.specs.declared.ends.SettleEnd.{SettleEnd}
 use Rattle.euicc_core.specs.declared.ends.SettleEnd.TheVariants as settle_end
@@ -47,7 +47,7 @@ unlit_off a b some u =
 never_none : (a b : Seen) → StandsForSome a → IsUnlit a b → WokeAsNone (a.marks.answers + 1) b → ⊥
 never_none a b some u h =
     let former = some u.first u.woken.was in
-    let same : u.last ≡ h.image = some_is u.last h.image (sym u.woken.woke ∙ h.woke) in
+    let same : u.last ≡ h.image = same_Some u.last h.image (sym u.woken.woke ∙ h.woke) in
     h.none former.0 (subst (λ (i : List ℕ). Stands former.0 i) same (u.woken.stands former.0 former.1))
 
 pub recognised : (n : ℕ) (end : SettleEnd) (a b : Seen) → Cycles n end a b → Recognises end a b

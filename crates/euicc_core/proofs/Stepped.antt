@@ -7,10 +7,11 @@ use Rattle.small_card.specs.Histories.{History, full_of, with_unit}
 use Rattle.small_card.specs.Units.{CardUnit}
 use Rattle.small_card.specs.declared.types.Answer.{Answer}
 use Rattle.small_card.specs.declared.types.Command.{Command}
-use Rattle.package_codec.specs.Replies.{unit_of, grown, after}
+use Rattle.package_codec.specs.Replies.{unit_of, after}
 use Rattle.home_codec.specs.FullCards.{full_card}
 use Rattle.home_codec.specs.declared.card.Card.{Card}
-use Rattle.card_steps.specs.Steps.{IsTurn, Turns}
+use Rattle.card_steps.specs.Steps.{IsTurn, Turns, answer_of}
+use Rattle.card_steps.proofs.OneStep.{after_none, after_one}
 use Rattle.card_steps.specs.declared.turns.Turn.{Turn}
 use Rattle.card_steps.specs.declared.turns.Turn.TheVariants.{Same, Changed}
 use Rattle.card_store.specs.declared.ends.StageError.{StageError}
@@ -18,21 +19,21 @@ use Rattle.card_store.specs.declared.ends.StageError.TheVariants as stage
 use Rattle.card_store.specs.Standing.{IsSettled}
 use Rattle.card_store.proofs.Cards.{settled_stays}
 use Rattle.card_store.proofs.Looking.{untouched_looks}
+use Rattle.std.proofs.lemmas.Option.{same_Some}
 use Rattle.euicc_core.specs.Steps.{IsLitOn, EndsAt, AnswersAlone, IsChipStep, ChipSteps}
-use Rattle.euicc_core.specs.Closing.{failure_of, ClosesUnit, ClosesSame, Closes, end_of, left_by_failure}
+use Rattle.euicc_core.specs.Closing.{failure_of, ClosesUnit, ClosesSame, left_by_failure, end_of_failure}
 use Rattle.euicc_core.specs.declared.ends.StepEnd.{StepEnd}
+use Rattle.euicc_core.specs.declared.ends.StepEnd.TheVariants.{Answered}
 
-some_full : (f g : FullCard) → Some f ≡ Some g → f ≡ g
-some_full f g e = cc
+-- what a command made of a card was carried over to the chip, and answered
+abbrev Closes : FullCard → Turn → Option StageError → Seen → Seen → Type 0
+Closes c (Same a) failure old new = ClosesSame c failure old new
+Closes c (Changed card a) failure old new = ClosesUnit c (full_card card) failure old new
 
--- the history after a command without a unit, and with one
-after_none : (h : History) (c : Command) → unit_of h c ≡ None → after h c ≡ h
-unfolding after
-after_none h c e = ap (λ o. grown o h) e
-
-after_one : (h : History) (c : Command) (u : CardUnit) → unit_of h c ≡ Some u → after h c ≡ with_unit h u
-unfolding after
-after_one h c u e = ap (λ o. grown o h) e
+-- how the step of a turn ends, which was carried over to the chip or failed
+abbrev pub end_of : {T : Type 0} → Turn → Result T StageError → StepEnd
+end_of end (Ok x) = Answered (answer_of end)
+end_of end (Err error) = end_of_failure error
 
 -- the step of a command, from how it ends with its unit
 at_step : (h next : History) (c : Command) (u : Option CardUnit) (end : StepEnd) (s t : Seen) → unit_of h c ≡ u → after h c ≡ next → EndsAt h u next end s t → EndsAt h (unit_of h c) (after h c) end s t
@@ -81,7 +82,7 @@ chip_stepped h c f (Changed card a) done s t told settled is turned k =
 
 chip_steps : {T : Type 0} (c : Command) (before : Option FullCard) (f : FullCard) (turn : Turn) (done : Result T StageError) (s t : Seen) → before ≡ Some f → s.told ≡ true → IsSettled f s → Turns c f turn → Closes f turn (failure_of done) s t → ChipSteps c before (end_of turn done) s t
 chip_steps c before f turn done s t at told settled turns k = λ h legal is.
-    let same : full_of h ≡ f = some_full (full_of h) f (sym is ∙ at) in
+    let same : full_of h ≡ f = same_Some (full_of h) f (sym is ∙ at) in
     chip_stepped h c f turn done s t told settled same (turns h legal same) k
 
 -- a lit card's chip

@@ -4,10 +4,6 @@ use Rattle.chip_port.specs.Seen.{Seen}
 use Rattle.chip_port.specs.Rules.{Untouched}
 use Rattle.chip_port.specs.Runs.{Ran}
 use Rattle.small_card.specs.Cards.{FullCard}
-use Rattle.home_codec.specs.FullCards.{full_card}
-use Rattle.card_steps.specs.Steps.{answer_of}
-use Rattle.card_steps.specs.declared.turns.Turn.{Turn}
-use Rattle.card_steps.specs.declared.turns.Turn.TheVariants.{Same, Changed}
 use Rattle.card_store.specs.declared.ends.StageError.{StageError}
 use Rattle.card_store.specs.declared.ends.StageError.TheVariants as stage
 use Rattle.card_store.specs.Standing.{Stands, StandsForEither, IsSettled}
@@ -15,7 +11,7 @@ use Rattle.card_store.specs.Looking.{Looks}
 use Rattle.euicc_core.specs.Answers.{Answers}
 use Rattle.euicc_core.specs.Steps.{IsOneAnswer}
 use Rattle.euicc_core.specs.declared.ends.StepEnd.{StepEnd}
-use Rattle.euicc_core.specs.declared.ends.StepEnd.TheVariants.{Answered, Lost, NoMemory}
+use Rattle.euicc_core.specs.declared.ends.StepEnd.TheVariants.{Lost, NoMemory}
 
 -- why it failed, if it did
 abbrev pub failure_of : {T : Type 0} → Result T StageError → Option StageError
@@ -40,11 +36,6 @@ ClosesSame c None old new = Answers (Stands c) c old new × IsOneAnswer true old
 ClosesSame c (Some stage.Failed) old new = Ran 10000 false (Stands c) old new × IsOneAnswer false old new
 ClosesSame c (Some stage.NoMemory) old new = Untouched (λ t. t) old new
 
--- what a command made of a card was carried over to the chip, and answered
-abbrev pub Closes : FullCard → Turn → Option StageError → Seen → Seen → Type 0
-Closes c (Same a) failure old new = ClosesSame c failure old new
-Closes c (Changed card a) failure old new = ClosesUnit c (full_card card) failure old new
-
 -- how a step ends that failed
 abbrev pub end_of_failure : StageError → StepEnd
 end_of_failure stage.Failed = Lost
@@ -54,8 +45,3 @@ end_of_failure stage.NoMemory = NoMemory
 abbrev pub left_by_failure : Option FullCard → StageError → Option FullCard
 left_by_failure before stage.Failed = None
 left_by_failure before stage.NoMemory = before
-
--- how the step of a turn ends, which was carried over to the chip or failed
-abbrev pub end_of : {T : Type 0} → Turn → Result T StageError → StepEnd
-end_of end (Ok x) = Answered (answer_of end)
-end_of end (Err error) = end_of_failure error

@@ -3,8 +3,8 @@ use Rattle.std.proofs.Common.{◌≡◌, ℕ, List, Some, Result, Ok, Err, sym, 
 use Rattle.std.specs.Prelude.{IfOk, IsErrOf}
 use Rattle.iot_bytes.specs.declared.memory.ReadError.{ReadError}
 use Rattle.iot_bytes.specs.declared.memory.ReadError.TheVariants.{Malformed, NoMemory}
-use Rattle.sgp_der.proofs.Lengths.{IsBytes}
 use Rattle.small_card.specs.Cards.{FullCard}
+use Rattle.iot_bytes.proofs.Framing.{IsBytes}
 use Rattle.home_codec.specs.declared.card.Card.{Card}
 use Rattle.home_codec.specs.FullCards.{full_card, GivesCard}
 use Rattle.home_codec.specs.Homes.{IsHomeOf}

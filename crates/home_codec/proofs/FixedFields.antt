@@ -8,30 +8,15 @@ use Rattle.std.proofs.lemmas.List.{take-append-drop, length-take-le, length-drop
 use Rattle.std.proofs.lemmas.Bool.{eqb-true, leb-true, le-leb, and_parts}
 use Rattle.std.proofs.lemmas.Nat.{be_bytes_4, be_bytes_8, from_be_bytes-to_be_bytes_4, from_be_bytes-to_be_bytes_8}
 use Rattle.sgp_der.specs.Fields.{◌>>=◌}
-use Rattle.sgp_der.proofs.Lengths.{IsBytes}
 use Rattle.sgp_der.proofs.Fields.{on_some, guard_some, IsBytes-left, IsBytes-right}
 use Rattle.sgp_fields.specs.Values.{only_if}
-use Rattle.sgp_fields.proofs.Codecs.{IsCodec}
-use Rattle.sgp_fields.proofs.Steps.{some_is, only_if_again}
+use Rattle.sgp_fields.proofs.Codecs.{IsCodec, IsFront, IsPrefix}
+use Rattle.sgp_fields.proofs.Steps.{on_front, only_if_again}
 use Rattle.sgp_fields.proofs.ValueCodecs.{octets}
 use Rattle.small_card.specs.Lists.{Every}
+use Rattle.std.proofs.lemmas.Option.{same_Some}
+use Rattle.iot_bytes.proofs.Framing.{IsBytes}
 use Rattle.home_codec.specs.Fixed.{zeros, word, long, text, slots, octet_at, octets_at, fixed_at, is_blank, blank_at, word_at, long_at, text_in, text_at, many_at, slots_at}
-
--- octets that begin with a value's spelling
-pub record IsFront {X : Type 0} (spell : X → List ℕ) (Fits : X → Type 0) (bytes : List ℕ) (x : X) (rest : List ℕ) : Type 0 where
-  pub parts : bytes ≡ spell x ++ rest
-  pub fits : Fits x
-  pub others : IsBytes rest
-
--- a field and its spelling: what is read was spelled so, and what is spelled is read again
-pub record IsField {X : Type 0} (read : List ℕ → Option (X × List ℕ)) (spell : X → List ℕ) (Fits : X → Type 0) : Type 0 where
-  pub takes : (bytes : List ℕ) (x : X) (rest : List ℕ) → IsBytes bytes → read bytes ≡ Some (x, rest) → IsFront spell Fits bytes x rest
-  pub again : (x : X) (rest : List ℕ) → Fits x → read (spell x ++ rest) ≡ Some (x, rest)
-
--- a field that was read
-pub on_part : {X A P : Type 0} {read : List ℕ → Option (X × List ℕ)} {spell : X → List ℕ} {Fits : X → Type 0} → IsField read spell Fits → (bytes : List ℕ) (f : X × List ℕ → Option A) (y : A) → IsBytes bytes
-    → (read bytes >>= f) ≡ Some y → ((x : X) (rest : List ℕ) → IsFront spell Fits bytes x rest → f (x, rest) ≡ Some y → P) → P
-on_part {X} {A} {P} {read} field bytes f y fits e go = on_some (read bytes) f y e (λ p a e1. go p.0 p.1 (field.takes bytes p.0 p.1 fits a) e1)
 
 -- one octet at the front
 pub on_octet : {A P : Type 0} (bytes : List ℕ) (f : ℕ × List ℕ → Option A) (y : A) → IsBytes bytes → (octet_at bytes >>= f) ≡ Some y
@@ -75,7 +60,7 @@ fixed_takes {X} {of} {spell} {Fits} codec n bytes x rest fits e =
     on_octets n bytes _ (x, rest) fits e (λ front others s e1.
     on_some (of front) _ (x, rest) e1 (λ z a e2.
     let t = codec.takes front z s.within a in
-    let same : (z, others) ≡ (x, rest) = some_is _ _ e2 in
+    let same : (z, others) ≡ (x, rest) = same_Some _ _ e2 in
     subst (λ (p : X × List ℕ). IsFront spell Fits bytes p.0 p.1) same (record { parts = s.parts ∙ ap (λ (l : List ℕ). l ++ others) t.0; fits = t.1; others = s.others })))
 
 fixed_again : {X : Type 0} {of : List ℕ → Option X} {spell : X → List ℕ} {Fits : X → Type 0} → IsCodec of spell Fits → (n : ℕ) → ((x : X) → Fits x → length (spell x) ≡ n) → (x : X) (rest : List ℕ) → Fits x → fixed_at of n (spell x ++ rest) ≡ Some (x, rest)
@@ -83,7 +68,7 @@ unfolding fixed_at
 fixed_again {X} {of} {spell} codec n len x rest fits = rw (octets_again n (spell x) rest (len x fits)) (rw (codec.again x fits) refl)
 
 -- a field of a fixed number of octets
-pub fixed_field : {X : Type 0} {of : List ℕ → Option X} {spell : X → List ℕ} {Fits : X → Type 0} → IsCodec of spell Fits → (n : ℕ) → ((x : X) → Fits x → length (spell x) ≡ n) → IsField (fixed_at of n) spell Fits
+pub fixed_field : {X : Type 0} {of : List ℕ → Option X} {spell : X → List ℕ} {Fits : X → Type 0} → IsCodec of spell Fits → (n : ℕ) → ((x : X) → Fits x → length (spell x) ≡ n) → IsPrefix (fixed_at of n) spell Fits
 fixed_field {X} {of} {spell} {Fits} codec n len = record { takes = fixed_takes codec n; again = fixed_again codec n len }
 
 pub length-zeros : (n : ℕ) → length (zeros n) ≡ n
@@ -148,7 +133,7 @@ word_takes : (bytes : List ℕ) (x : ℕ) (rest : List ℕ) → IsBytes bytes �
 unfolding word_at word
 word_takes bytes x rest fits e =
     on_octets 4 bytes _ (x, rest) fits e (λ front others s e1.
-    let same : (from_be_bytes w32 front, others) ≡ (x, rest) = some_is _ _ e1 in
+    let same : (from_be_bytes w32 front, others) ≡ (x, rest) = same_Some _ _ e1 in
     let spelled : to_be_bytes w32 (from_be_bytes w32 front) ≡ front = be_bytes_4 front _ s.len s.within refl in
     subst (λ (p : ℕ × List ℕ). IsFront word IsWord bytes p.0 p.1) same
     (record { parts = s.parts ∙ ap (λ (l : List ℕ). l ++ others) (sym spelled); fits = four_octets front s.len s.within; others = s.others }))
@@ -161,7 +146,7 @@ word_again : (x : ℕ) (rest : List ℕ) → IsWord x → word_at (word x ++ res
 unfolding word_at
 word_again x rest fits = rw (octets_again 4 (word x) rest (length-word x)) (rw (word_back x fits) refl)
 
-pub word_field : IsField word_at word IsWord
+pub word_field : IsPrefix word_at word IsWord
 word_field = record { takes = word_takes; again = word_again }
 
 -- any number: its octets say how great it can be
@@ -193,7 +178,7 @@ long_takes : (bytes : List ℕ) (x : ℕ) (rest : List ℕ) → IsBytes bytes �
 unfolding long_at long
 long_takes bytes x rest fits e =
     on_octets 8 bytes _ (x, rest) fits e (λ front others s e1.
-    let same : (from_be_bytes w64 front, others) ≡ (x, rest) = some_is _ _ e1 in
+    let same : (from_be_bytes w64 front, others) ≡ (x, rest) = same_Some _ _ e1 in
     let spelled : to_be_bytes w64 (from_be_bytes w64 front) ≡ front = be_bytes_8 front _ s.len s.within refl in
     subst (λ (p : ℕ × List ℕ). IsFront long IsLong bytes p.0 p.1) same
     (record { parts = s.parts ∙ ap (λ (l : List ℕ). l ++ others) (sym spelled); fits = eight_octets front s.len s.within; others = s.others }))
@@ -206,7 +191,7 @@ long_again : (x : ℕ) (rest : List ℕ) → IsLong x → long_at (long x ++ res
 unfolding long_at
 long_again x rest fits = rw (octets_again 8 (long x) rest (length-long x)) (rw (long_back x fits) refl)
 
-pub long_field : IsField long_at long IsLong
+pub long_field : IsPrefix long_at long IsLong
 long_field = record { takes = long_takes; again = long_again }
 
 -- a text in a field of n octets
@@ -231,7 +216,7 @@ text_takes {of} {Fits} codec n bytes x rest fits e =
     let h = on_true (is_blank (drop m field)) (of (take m field)) z b in
     let within : IsBytes (take m field) = IsBytes-left (take m field) (drop m field) (subst (λ (l : List ℕ). IsBytes l) (sym (take-append-drop m field)) s.within) in
     let t = codec.takes (take m field) z within h.1 in
-    let same : (z, after) ≡ (x, rest) = some_is _ _ e4 in
+    let same : (z, after) ≡ (x, rest) = same_Some _ _ e4 in
     let few : m ≤ n = omega (arith, leb-true len n g.0, g.1) in
     let k = text_taken n m field z few s.len h.0 t.0 in
     subst (λ (p : List ℕ × List ℕ). IsFront (text n) Fits bytes p.0 p.1) same
@@ -246,7 +231,7 @@ text_again {of} codec n few x rest fits =
     rw (octets_again n (x ++ zeros (n - length x)) rest room)
     (rw (le-leb (length x) n (few x fits)) (rw back (rw (zeros_blank (n - length x)) (rw front (rw (codec.again x fits) refl)))))
 
-pub text_field : {of : List ℕ → Option (List ℕ)} {Fits : List ℕ → Type 0} → IsCodec of octets Fits → (n : ℕ) → ((x : List ℕ) → Fits x → length x ≤ n) → IsField (text_at of n) (text n) Fits
+pub text_field : {of : List ℕ → Option (List ℕ)} {Fits : List ℕ → Type 0} → IsCodec of octets Fits → (n : ℕ) → ((x : List ℕ) → Fits x → length x ≤ n) → IsPrefix (text_at of n) (text n) Fits
 text_field codec n few = record { takes = text_takes codec n; again = text_again codec n few }
 
 -- so many entries
@@ -256,21 +241,21 @@ pub record AreMany {X : Type 0} (spell : X → List ℕ) (Fits : X → Type 0) (
   pub each : Every Fits xs
   pub others : IsBytes rest
 
-pub many_takes : {X : Type 0} {entry : List ℕ → Option (X × List ℕ)} {spell : X → List ℕ} {Fits : X → Type 0} → IsField entry spell Fits → (n : ℕ) (bytes : List ℕ) (xs : List X) (rest : List ℕ) → IsBytes bytes
+pub many_takes : {X : Type 0} {entry : List ℕ → Option (X × List ℕ)} {spell : X → List ℕ} {Fits : X → Type 0} → IsPrefix entry spell Fits → (n : ℕ) (bytes : List ℕ) (xs : List X) (rest : List ℕ) → IsBytes bytes
     → many_at entry n bytes ≡ Some (xs, rest) → AreMany spell Fits n bytes xs rest
 unfolding many_at
 many_takes {X} {entry} {spell} {Fits} field zero bytes xs rest fits e =
-    let same : ([], bytes) ≡ (xs, rest) = some_is _ _ e in
+    let same : ([], bytes) ≡ (xs, rest) = same_Some _ _ e in
     subst (λ (p : List X × List ℕ). AreMany spell Fits zero bytes p.0 p.1) same (record { parts = refl; count = refl; each = tt; others = fits })
 many_takes {X} {entry} {spell} {Fits} field (suc n) bytes xs rest fits e =
-    on_part field bytes _ (xs, rest) fits e (λ x after a e1.
+    on_front field bytes _ (xs, rest) fits e (λ x after a e1.
     on_some (many_at entry n after) _ (xs, rest) e1 (λ p b e2.
     let t = many_takes field n after p.0 p.1 a.others b in
-    let same : (x ∷ p.0, p.1) ≡ (xs, rest) = some_is _ _ e2 in
+    let same : (x ∷ p.0, p.1) ≡ (xs, rest) = same_Some _ _ e2 in
     subst (λ (q : List X × List ℕ). AreMany spell Fits (suc n) bytes q.0 q.1) same
     (record { parts = a.parts ∙ ap (λ (l : List ℕ). spell x ++ l) t.parts ∙ sym (append_assoc (spell x) (flat_map spell p.0) p.1); count = omega (arith, t.count); each = (a.fits, t.each); others = t.others })))
 
-pub many_again : {X : Type 0} {entry : List ℕ → Option (X × List ℕ)} {spell : X → List ℕ} {Fits : X → Type 0} → IsField entry spell Fits → (xs : List X) (rest : List ℕ) → Every Fits xs
+pub many_again : {X : Type 0} {entry : List ℕ → Option (X × List ℕ)} {spell : X → List ℕ} {Fits : X → Type 0} → IsPrefix entry spell Fits → (xs : List X) (rest : List ℕ) → Every Fits xs
     → many_at entry (length xs) (flat_map spell xs ++ rest) ≡ Some (xs, rest)
 unfolding many_at
 many_again field [] rest each = refl
@@ -286,7 +271,7 @@ pub record AreSlotted {X : Type 0} (spell : X → List ℕ) (Fits : X → Type 0
   pub each : Every Fits xs
   pub others : IsBytes rest
 
-pub on_slots : {X A P : Type 0} {entry : List ℕ → Option (X × List ℕ)} {spell : X → List ℕ} {Fits : X → Type 0} → IsField entry spell Fits → (size all n : ℕ) (bytes : List ℕ) (f : List X × List ℕ → Option A) (y : A) → IsBytes bytes
+pub on_slots : {X A P : Type 0} {entry : List ℕ → Option (X × List ℕ)} {spell : X → List ℕ} {Fits : X → Type 0} → IsPrefix entry spell Fits → (size all n : ℕ) (bytes : List ℕ) (f : List X × List ℕ → Option A) (y : A) → IsBytes bytes
     → (slots_at entry size all n bytes >>= f) ≡ Some y → ((xs : List X) (rest : List ℕ) → AreSlotted spell Fits size all n bytes xs rest → f (xs, rest) ≡ Some y → P) → P
 unfolding slots_at slots
 on_slots {X} {A} {P} {entry} {spell} {Fits} field size all n bytes f y fits e go =
@@ -296,7 +281,7 @@ on_slots {X} {A} {P} {entry} {spell} {Fits} field size all n bytes f y fits e go
     on_some (many_at entry m bytes) _ r a1 (λ p c a2.
     let t = many_takes field m bytes p.0 p.1 fits c in
     on_blank (size * (all - n)) p.1 _ r t.others a2 (λ rest blank others a3.
-    let same : (p.0, rest) ≡ r = some_is _ _ a3 in
+    let same : (p.0, rest) ≡ r = same_Some _ _ a3 in
     let zero_count : size * (all - n) ≡ size * (all - length p.0) = ap (λ (k : ℕ). size * (all - k)) (g.1 ∙ sym t.count) in
     go p.0 rest (record {
       parts = t.parts ∙ ap (λ (l : List ℕ). flat_map spell p.0 ++ l) (blank ∙ ap (λ (k : ℕ). zeros k ++ rest) zero_count) ∙ sym (append_assoc (flat_map spell p.0) (zeros (size * (all - length p.0))) rest);
@@ -306,7 +291,7 @@ on_slots {X} {A} {P} {entry} {spell} {Fits} field size all n bytes f y fits e go
       others = others;
     }) (ap f same ∙ e1)))))
 
-pub slots_again : {X : Type 0} {entry : List ℕ → Option (X × List ℕ)} {spell : X → List ℕ} {Fits : X → Type 0} → IsField entry spell Fits → (size all : ℕ) (xs : List X) (rest : List ℕ) → length xs ≤ all → Every Fits xs
+pub slots_again : {X : Type 0} {entry : List ℕ → Option (X × List ℕ)} {spell : X → List ℕ} {Fits : X → Type 0} → IsPrefix entry spell Fits → (size all : ℕ) (xs : List X) (rest : List ℕ) → length xs ≤ all → Every Fits xs
     → slots_at entry size all (length xs) (slots spell size all xs ++ rest) ≡ Some (xs, rest)
 unfolding slots_at slots
 slots_again {X} {entry} {spell} field size all xs rest few each =

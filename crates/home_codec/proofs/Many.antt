@@ -3,12 +3,8 @@ use Rattle.std.proofs.Common.{◌≡◌, ℕ, zero, suc, ◌+◌, ◌-◌, ◌<�
 use Rattle.std.proofs.lemmas.List.{append-nil}
 use Rattle.sgp_der.specs.Fields.{◌>>=◌}
 use Rattle.sgp_der.proofs.Fields.{on_some}
-use Rattle.sgp_fields.proofs.Steps.{some_is}
+use Rattle.std.proofs.lemmas.Option.{same_Some}
 use Rattle.home_codec.specs.Fixed.{many_at, joined}
-
-pub joined_first : {X : Type 0} (r : Option (List X × List ℕ)) → joined [] r ≡ r
-joined_first None = refl
-joined_first (Some r) = refl
 
 joined_more : {X : Type 0} (rows : List X) (x : X) (r : Option (List X × List ℕ)) → joined rows (r >>= λ xs. Some (x ∷ xs.0, xs.1)) ≡ joined (rows ++ x ∷ []) r
 joined_more rows x None = refl
@@ -52,9 +48,9 @@ pub many_count : {X : Type 0} (entry : List ℕ → Option (X × List ℕ)) (n :
 unfolding many_at
 many_count {X} entry zero bytes p e =
     let made : List X × List ℕ = ([], bytes) in
-    sym (ap (λ (q : List X × List ℕ). length q.0) (some_is made p e))
+    sym (ap (λ (q : List X × List ℕ). length q.0) (same_Some made p e))
 many_count {X} entry (suc n) bytes p e =
     on_some (entry bytes) _ p e (λ x a e1.
     on_some (many_at entry n x.1) _ p e1 (λ q b e2.
     let made : List X × List ℕ = (x.0 ∷ q.0, q.1) in
-    sym (ap (λ (r : List X × List ℕ). length r.0) (some_is made p e2)) ∙ ap suc (many_count entry n x.1 q b)))
+    sym (ap (λ (r : List X × List ℕ). length r.0) (same_Some made p e2)) ∙ ap suc (many_count entry n x.1 q b)))

@@ -14,6 +14,7 @@ use Rattle.small_card.specs.Ranges.{IsResult, IsNumber}
 use Rattle.small_card.specs.declared.types.PackageResult.{PackageResult}
 use Rattle.result_codec.specs.Spelling.{result, result_content}
 use Rattle.result_codec.proofs.ResultCodec.{result_few, number_first}
+use Rattle.sgp_der.proofs.Lengths.{len_few}
 use Rattle.home_codec.specs.Fixed.{word}
 use Rattle.home_codec.specs.Layout.{kept_front, slot_front}
 use Rattle.home_codec.specs.Homes.{Begins}
@@ -38,9 +39,6 @@ form_by false false false n low = record { first = 131; more = n / 65536 ∷ n /
 len_form : (n : ℕ) → HasForm (len_octets n)
 unfolding len_octets
 len_form n = form_by (nat_lt n 128) (nat_lt n 256) (nat_lt n 65536) n (ltb-true n 128)
-
-length-len_octets : (n : ℕ) → length (len_octets n) ≤ 4
-length-len_octets n = let f = len_form n in omega (arith, ap length f.is, f.few)
 
 seq_again : (n seq : ℕ) (rest : List ℕ) → IsNumber seq → seq_at (48 ∷ (len_octets n ++ (element 128 (uint seq) ++ rest))) ≡ Some seq
 unfolding seq_at
@@ -87,9 +85,9 @@ length-seq_front r h =
     omega (
       arith,
       length-append len (element 128 (uint r.seq)),
-      length-len_octets (length (result_content r)),
+      len_few (length (result_content r)),
       length-element 128 (uint r.seq),
-      length-len_octets (length (uint r.seq)),
+      len_few (length (uint r.seq)),
       uint_few r.seq (omega (arith, h.seq.fits)),
     )
 

@@ -4,10 +4,9 @@ use Rattle.std.specs.Prelude.{◌==◌, nat_le, IfSome}
 use Rattle.std.proofs.Math.Seq.{take-append_seam, drop-append_seam, take-append-add}
 use Rattle.std.proofs.lemmas.List.{take-append-drop, take-append-le, length-take-le, length-drop}
 use Rattle.std.proofs.lemmas.Bool.{eqb-true, ne_eqb, leb-true, le-leb}
-use Rattle.sgp_der.proofs.Lengths.{IsBytes}
 use Rattle.sgp_der.proofs.Elements.{length-element}
 use Rattle.sgp_der.proofs.Fields.{on_some, IsBytes-left}
-use Rattle.sgp_fields.proofs.Steps.{some_is, on_end}
+use Rattle.sgp_fields.proofs.Steps.{on_end, on_front}
 use Rattle.sgp_fields.proofs.ValueCodecs.{chosen}
 use Rattle.small_card.specs.Lists.{Every}
 use Rattle.small_card.specs.Cards.{FullCard}
@@ -18,12 +17,14 @@ use Rattle.small_card.specs.declared.types.PackageResult.{PackageResult}
 use Rattle.result_codec.specs.Spelling.{result}
 use Rattle.result_codec.specs.Reading.{result_at}
 use Rattle.result_codec.proofs.ResultCodec.{result_codec, result_few}
+use Rattle.std.proofs.lemmas.Option.{same_Some}
+use Rattle.iot_bytes.proofs.Framing.{IsBytes}
 use Rattle.home_codec.specs.Fixed.{word, fixed_at, many_at}
 use Rattle.home_codec.specs.Layout.{kept_front, slot_front}
 use Rattle.home_codec.specs.Ordering.{somes, in_order}
 use Rattle.home_codec.specs.Homes.{Begins, AreSlots, HasResults}
 use Rattle.home_codec.specs.Reading.{held_in, slot_of, results_at}
-use Rattle.home_codec.proofs.FixedFields.{on_part, on_octets, octets_again, word_field, length-word}
+use Rattle.home_codec.proofs.FixedFields.{on_octets, octets_again, word_field, length-word}
 use Rattle.home_codec.proofs.Sorting.{every_in_order, in_order_every, every_somes, somes_every, length-in_order, length-somes}
 
 -- a slot holds a result in range, or nothing
@@ -51,11 +52,11 @@ kept_holds slot behind len r is room first fits =
 slot_takes : (slot : List ℕ) (place : Option PackageResult) → IsBytes slot → 18313 ≤ length slot → slot_of slot ≡ Some place → Holds slot place
 unfolding slot_of held_in
 slot_takes slot place fits room e =
-    on_part word_field slot _ place fits e (λ len behind a e1.
+    on_front word_field slot _ place fits e (λ len behind a e1.
     let size : length slot ≡ 4 + length behind = ap length a.parts ∙ length-append (word len) behind ∙ ap (λ (n : ℕ). n + length behind) (length-word len) in
     elim (chosen (len == 0) _ _ _ e1) [
       | inl h ↦
-          let none : None ≡ place = some_is None place h.1 in
+          let none : None ≡ place = same_Some None place h.1 in
           subst (λ (p : Option PackageResult). Holds slot p) none (free_holds slot behind (a.parts ∙ ap (λ (n : ℕ). word n ++ behind) (eqb-true len 0 h.0)))
       | inr h ↦
           elim (chosen (nat_le len 18309) _ _ _ h.1) [
@@ -63,7 +64,7 @@ slot_takes slot place fits room e =
                 on_some (result_at (take len behind)) _ place k.1 (λ r b e2.
                 let within : IsBytes (take len behind) = IsBytes-left (take len behind) (drop len behind) (subst (λ (l : List ℕ). IsBytes l) (sym (take-append-drop len behind)) a.others) in
                 let t = result_codec.takes (take len behind) r within b in
-                let some : Some r ≡ place = some_is (Some r) place e2 in
+                let some : Some r ≡ place = same_Some (Some r) place e2 in
                 subst (λ (p : Option PackageResult). Holds slot p) some (kept_holds slot behind len r a.parts (omega (arith, leb-true len 18309 k.0)) t.0 t.1))
             | inr k ↦ absurd cc
           ]
@@ -119,7 +120,7 @@ unfolding many_at fixed_at
 places_take size zero area places room fits e =
     let Read : Type 0 = List (Option PackageResult) × List ℕ in
     let made : Read = ([], area) in
-    let same : made ≡ (places, []) = some_is made (places, []) e in
+    let same : made ≡ (places, []) = same_Some made (places, []) e in
     let none : [] ≡ places = ap (λ (p : Read). p.0) same in
     let empty : area ≡ [] = ap (λ (p : Read). p.1) same in
     subst (λ (ps : List (Option PackageResult)). ArePlaces size zero area ps) none (record { stand = empty; count = refl; room = omega (arith, ap length empty); each = tt })
@@ -128,11 +129,11 @@ places_take size (suc n) area places room fits e =
     on_some (fixed_at slot_of size area) _ (places, []) e (λ p a e1.
     on_octets size area _ p fits a (λ front rest s a1.
     on_some (slot_of front) _ p a1 (λ place b a2.
-    let split : (place, rest) ≡ p = some_is _ _ a2 in
+    let split : (place, rest) ≡ p = same_Some _ _ a2 in
     let read_rest : many_at (fixed_at slot_of size) n p.1 ≡ many_at (fixed_at slot_of size) n rest = ap (λ (q : Option PackageResult × List ℕ). many_at (fixed_at slot_of size) n q.1) (sym split) in
     on_some (many_at (fixed_at slot_of size) n p.1) _ (places, []) e1 (λ q c e2.
     let made : Read = (p.0 ∷ q.0, q.1) in
-    let same : made ≡ (places, []) = some_is made (places, []) e2 in
+    let same : made ≡ (places, []) = same_Some made (places, []) e2 in
     let end : q.1 ≡ [] = ap (λ (x : Read). x.1) same in
     let whole : place ∷ q.0 ≡ places = ap (λ (x : Option PackageResult). x ∷ q.0) (ap (λ (x : Option PackageResult × List ℕ). x.0) split) ∙ ap (λ (x : Read). x.0) same in
     let ended_read : q ≡ (q.0, []) = ap (λ (l : List ℕ). let x : Read = (q.0, l) in x) end in
@@ -182,7 +183,7 @@ results_take area pending fits e =
     let Read : Type 0 = List (Option PackageResult) × List ℕ in
     on_some (many_at (fixed_at slot_of 20736) 8 area) _ pending e (λ p a e1.
     on_end p.1 _ pending e1 (λ none e2.
-    let same : in_order (somes p.0) ≡ pending = some_is _ _ e2 in
+    let same : in_order (somes p.0) ≡ pending = same_Some _ _ e2 in
     let ended_read : p ≡ (p.0, []) = ap (λ (l : List ℕ). let x : Read = (p.0, l) in x) none in
     let t = places_take 20736 8 area p.0 (omega arith) fits (a ∙ ap (λ (x : Read). Some x) ended_read) in
     subst (λ (rs : List PackageResult). AreRead rs area) same (record {

@@ -1,19 +1,21 @@
 -- The home: what is read as a card has the card's fields, and what has the fields of a valid card is read as it.
 use Rattle.std.proofs.Common.{◌≡◌, ℕ, true, List, ◌++◌, length, Some, sym, ap, subst, ◌∙◌, arith, append_assoc}
-use Rattle.sgp_der.proofs.Lengths.{IsBytes}
 use Rattle.sgp_der.proofs.Fields.{on_some, guard_some}
-use Rattle.sgp_fields.proofs.Steps.{some_is, only_if_again}
+use Rattle.sgp_fields.proofs.Steps.{only_if_again, on_front}
 use Rattle.small_card.specs.Cards.{FullCard}
 use Rattle.small_card.specs.Valid.{IsValid}
 use Rattle.small_card.specs.declared.types.Profile.{Profile}
 use Rattle.small_card.specs.declared.types.EimEntry.{EimEntry}
 use Rattle.small_card.specs.declared.types.PackageResult.{PackageResult}
+use Rattle.std.proofs.lemmas.Option.{same_Some}
+use Rattle.iot_bytes.proofs.Framing.{IsBytes}
 use Rattle.home_codec.specs.declared.head.Head.{Head}
 use Rattle.home_codec.specs.Fixed.{slots}
 use Rattle.home_codec.specs.Layout.{head, head_of, profile_slot, eim_slot}
 use Rattle.home_codec.specs.Homes.{HasFields, IsHomeOf}
 use Rattle.home_codec.specs.Reading.{results_at, fits_together, card_of_parts, card_at}
-use Rattle.home_codec.proofs.FixedFields.{IsFront, AreSlotted, on_part, on_slots, slots_again}
+use Rattle.sgp_fields.proofs.Codecs.{IsFront}
+use Rattle.home_codec.proofs.FixedFields.{AreSlotted, on_slots, slots_again}
 use Rattle.home_codec.proofs.Sections.{IsHead, head_codec, profile_codec, eim_codec, IsEimSlot}
 use Rattle.home_codec.proofs.ResultSlots.{AreRead, results_take, results_again}
 use Rattle.home_codec.proofs.Parts.{entries_fit, pending_fit, valid_head, valid_fits, fits_valid}
@@ -51,7 +53,7 @@ card_made home r1 r2 r3 h ps es rs a b c d fit =
 pub card_takes : (home : List ℕ) (f : FullCard) → IsBytes home → card_at home ≡ Some f → IsHomeOf f home
 unfolding card_at
 card_takes home f fits e =
-    on_part head_codec home _ f fits e (λ h r1 a e1.
+    on_front head_codec home _ f fits e (λ h r1 a e1.
     on_slots profile_codec 128 16 h.profiles r1 _ f a.others e1 (λ ps r2 b e2.
     on_slots eim_codec 512 8 h.eims r2 _ f b.others e2 (λ es r3 c e3.
     on_some (results_at r3) _ f e3 (λ rs d e4.
@@ -79,4 +81,4 @@ card_again home f h valid =
 
 -- a home is that of at most one valid card
 pub one_card : (home : List ℕ) (f g : FullCard) → IsHomeOf f home → IsHomeOf g home → f ≡ g
-one_card home f g a b = some_is f g (sym (card_again home f a.fields a.valid) ∙ card_again home g b.fields b.valid)
+one_card home f g a b = same_Some f g (sym (card_again home f a.fields a.valid) ∙ card_again home g b.fields b.valid)

@@ -1,17 +1,12 @@
 -- The words of the command line.
-use Rattle.std.specs.Prelude.{ℕ, ◌≤◌, ◌==◌, ◌&&◌, not, List, [], ◌∷◌, length, codes, if◌then◌else◌, Option, Some, None, Result, Ok, Err}
+use Rattle.std.specs.Prelude.{ℕ, ◌≤◌, ◌==◌, ◌&&◌, not, List, [], ◌∷◌, length, codes, if◌then◌else◌, Option, Some, None}
 use Rattle.hex.specs.Hex.{decode_sized}
-use Rattle.hex.specs.declared.error.FromHexError.{FromHexError}
 use Rattle.sgp_der.specs.Fields.{◌>>=◌}
 use Rattle.sgp_values.specs.Reading.{eid_of, eim_id_of}
 use Rattle.small_card.specs.Lists.{same}
-use Rattle.iot_schedule.specs.Tokens.{number_of}
+use Rattle.iot_schedule.specs.Tokens.{number_of, octets_of}
 use Rattle.iot_program.specs.declared.words.Form.{Form}
 use Rattle.iot_program.specs.declared.words.Form.TheVariants.{Card, Eim, Ipa, Check, Gen, Replay, Demo}
-
-abbrev pub octets_of : Result (List ℕ) FromHexError → Option (List ℕ)
-octets_of (Ok octets) = Some octets
-octets_of (Err e) = None
 
 -- an EID: 32 hexadecimal digits of either case
 abbrev pub eid_word : List ℕ → Option (List ℕ)

@@ -5,12 +5,12 @@ use Rattle.iot_bytes.specs.declared.memory.ReadError.{ReadError}
 use Rattle.iot_bytes.specs.declared.memory.ReadError.TheVariants.{Malformed, NoMemory}
 use Rattle.sgp_der.specs.Fields.{Gives}
 use Rattle.sgp_der.proofs.Fields.{on_some, guard_some}
-use Rattle.sgp_fields.proofs.Steps.{some_is}
 use Rattle.sgp_values.specs.Reading.{eim_id_of}
 use Rattle.small_card.specs.Lists.{same}
 use Rattle.small_card.specs.Pairs.{each_pair, are_profiles_apart}
 use Rattle.small_card.specs.Ranges.{greatest_counter}
 use Rattle.small_card.proofs.PairTests.{pairs_take, profile_pairs}
+use Rattle.std.proofs.lemmas.Option.{same_Some}
 use Rattle.iot_schedule.specs.declared.types.Device.{Device}
 use Rattle.iot_schedule.specs.declared.types.Line.{Line}
 use Rattle.iot_schedule.specs.declared.types.Line.TheVariants as line
@@ -28,19 +28,19 @@ LineFits of = (ws : List (List ℕ)) (l : Line) → of ws ≡ Some l → IsStep 
 
 eim_fits : LineFits eim_line
 unfolding eim_line IsStep
-eim_fits ws l e = on_some (last_word eim_id_of ws) (λ id. Some (line.Eim id)) l e (λ id a e1. subst IsStep (some_is (line.Eim id) l e1) (last_fits name_fits ws id a))
+eim_fits ws l e = on_some (last_word eim_id_of ws) (λ id. Some (line.Eim id)) l e (λ id a e1. subst IsStep (same_Some (line.Eim id) l e1) (last_fits name_fits ws id a))
 
 skip_fits : LineFits skip_line
 unfolding skip_line IsStep
-skip_fits ws l e = on_some (last_word eim_id_of ws) (λ id. Some (line.Skip id)) l e (λ id a e1. subst IsStep (some_is (line.Skip id) l e1) (last_fits name_fits ws id a))
+skip_fits ws l e = on_some (last_word eim_id_of ws) (λ id. Some (line.Skip id)) l e (λ id a e1. subst IsStep (same_Some (line.Skip id) l e1) (last_fits name_fits ws id a))
 
 kept_fits : LineFits kept_line
 unfolding kept_line IsStep
-kept_fits ws l e = on_some (last_word eim_id_of ws) (λ id. Some (line.Kept id)) l e (λ id a e1. subst IsStep (some_is (line.Kept id) l e1) (last_fits name_fits ws id a))
+kept_fits ws l e = on_some (last_word eim_id_of ws) (λ id. Some (line.Kept id)) l e (λ id a e1. subst IsStep (same_Some (line.Kept id) l e1) (last_fits name_fits ws id a))
 
 poll_fits : LineFits poll_line
 unfolding poll_line IsStep
-poll_fits ws l e = on_some (last_word eim_id_of ws) (λ id. Some (line.Poll id)) l e (λ id a e1. subst IsStep (some_is (line.Poll id) l e1) (last_fits name_fits ws id a))
+poll_fits ws l e = on_some (last_word eim_id_of ws) (λ id. Some (line.Poll id)) l e (λ id a e1. subst IsStep (same_Some (line.Poll id) l e1) (last_fits name_fits ws id a))
 
 initial_fits : LineFits initial_line
 unfolding initial_line IsStep
@@ -48,7 +48,7 @@ initial_fits ws l e =
     on_some (word_at eim_id_of ws) _ l e (λ id a e1.
     on_some (word_at address_word id.1) _ l e1 (λ address b e2.
     on_some (last_word key_word address.1) (λ key. Some (line.Initial id.0 address.0 key)) l e2 (λ key c e3.
-    subst IsStep (some_is (line.Initial id.0 address.0 key) l e3) (word_fits name_fits ws id a, word_fits address_word_fits id.1 address b, last_fits key_word_fits address.1 key c))))
+    subst IsStep (same_Some (line.Initial id.0 address.0 key) l e3) (word_fits name_fits ws id a, word_fits address_word_fits id.1 address b, last_fits key_word_fits address.1 key c))))
 
 bind_fits : LineFits bind_line
 unfolding bind_line IsStep
@@ -57,51 +57,51 @@ bind_fits ws l e =
     on_some (word_at (number_of 1 4294967295) id.1) _ l e1 (λ association b e2.
     on_some (last_word (number_of 0 greatest_counter) association.1) (λ last. Some (line.Bind id.0 association.0 last)) l e2 (λ last c e3.
     let n = word_fits (number_fits 1 4294967295) id.1 association b in
-    subst IsStep (some_is (line.Bind id.0 association.0 last) l e3) (word_fits name_fits ws id a, record { some = n.low; fits = n.high }, (last_fits (number_fits 0 greatest_counter) association.1 last c).high))))
+    subst IsStep (same_Some (line.Bind id.0 association.0 last) l e3) (word_fits name_fits ws id a, record { some = n.low; fits = n.high }, (last_fits (number_fits 0 greatest_counter) association.1 last c).high))))
 
 order_fits : LineFits order_line
 unfolding order_line IsStep
 order_fits ws l e =
     on_some (word_at eim_id_of ws) _ l e (λ id a e1.
     on_some (body_of id.1) (λ operations. Some (line.Order id.0 operations)) l e1 (λ operations b e2.
-    subst IsStep (some_is (line.Order id.0 operations) l e2) (word_fits name_fits ws id a, body_fits id.1 operations b)))
+    subst IsStep (same_Some (line.Order id.0 operations) l e2) (word_fits name_fits ws id a, body_fits id.1 operations b)))
 
 up_fits : LineFits up_line
 unfolding up_line IsStep
-up_fits ws l e = on_some (last_word pick_word ws) (λ pick. Some (line.Up pick)) l e (λ pick a e1. subst IsStep (some_is (line.Up pick) l e1) (last_fits pick_fits ws pick a))
+up_fits ws l e = on_some (last_word pick_word ws) (λ pick. Some (line.Up pick)) l e (λ pick a e1. subst IsStep (same_Some (line.Up pick) l e1) (last_fits pick_fits ws pick a))
 
 down_fits : LineFits down_line
 unfolding down_line IsStep
 down_fits ws l e =
     on_some (word_at pick_word ws) _ l e (λ pick a e1.
     on_some (verdict_of pick.1) (λ good. Some (line.Down pick.0 good)) l e1 (λ good b e2.
-    subst IsStep (some_is (line.Down pick.0 good) l e2) (word_fits pick_fits ws pick a)))
+    subst IsStep (same_Some (line.Down pick.0 good) l e2) (word_fits pick_fits ws pick a)))
 
 load_fits : LineFits load_line
 unfolding load_line IsStep
 load_fits ws l e =
     on_some (word_at (choice_of (codes "good") (codes "bad")) ws) _ l e (λ good a e1.
     on_some (last_word bytes_word good.1) (λ bytes. Some (line.Load good.0 bytes)) l e1 (λ bytes b e2.
-    subst IsStep (some_is (line.Load good.0 bytes) l e2) (last_fits bytes_fits good.1 bytes b)))
+    subst IsStep (same_Some (line.Load good.0 bytes) l e2) (last_fits bytes_fits good.1 bytes b)))
 
 probe_fits : LineFits probe_line
 unfolding probe_line IsStep
-probe_fits ws l e = on_some (last_word (choice_of (codes "ok") (codes "fail")) ws) (λ passed. Some (line.Probe passed)) l e (λ passed a e1. subst IsStep (some_is (line.Probe passed) l e1) tt)
+probe_fits ws l e = on_some (last_word (choice_of (codes "ok") (codes "fail")) ws) (λ passed. Some (line.Probe passed)) l e (λ passed a e1. subst IsStep (same_Some (line.Probe passed) l e1) tt)
 
 cut_fits : LineFits cut_line
 unfolding cut_line IsStep
 cut_fits ws l e =
     on_some (word_at (number_of 0 4294967295) ws) _ l e (λ calls a e1.
     on_some (last_word tear_word calls.1) (λ tear. Some (line.Cut calls.0 tear)) l e1 (λ tear b e2.
-    subst IsStep (some_is (line.Cut calls.0 tear) l e2) (word_fits (number_fits 0 4294967295) ws calls a).high))
+    subst IsStep (same_Some (line.Cut calls.0 tear) l e2) (word_fits (number_fits 0 4294967295) ws calls a).high))
 
 detach_fits : LineFits detach_line
 unfolding detach_line IsStep
-detach_fits ws l e = on_some (last_word (number_of 0 4294967295) ws) (λ at. Some (line.Detach at)) l e (λ at a e1. subst IsStep (some_is (line.Detach at) l e1) (last_fits (number_fits 0 4294967295) ws at a).high)
+detach_fits ws l e = on_some (last_word (number_of 0 4294967295) ws) (λ at. Some (line.Detach at)) l e (λ at a e1. subst IsStep (same_Some (line.Detach at) l e1) (last_fits (number_fits 0 4294967295) ws at a).high)
 
 bare_fits : (it : Line) → IsStep it → LineFits (bare_line it)
 unfolding bare_line
-bare_fits it fits ws l e = on_some (no_word ws) (λ end. Some it) l e (λ end a e1. subst IsStep (some_is it l e1) fits)
+bare_fits it fits ws l e = on_some (no_word ws) (λ end. Some it) l e (λ end a e1. subst IsStep (same_Some it l e1) fits)
 
 boot_in : IsStep line.Boot
 unfolding IsStep

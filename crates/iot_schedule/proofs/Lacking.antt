@@ -5,7 +5,7 @@ use Rattle.std.specs.List.{AllPass, list_all}
 use Rattle.std.specs.Fmt.{decimal}
 use Rattle.std.specs.Str.Parse.{AllDigits}
 use Rattle.std.specs.Char.{digit_value}
-use Rattle.std.proofs.lemmas.Bool.{eqb-true, eq-eqb, and_parts, and_from}
+use Rattle.std.proofs.lemmas.Bool.{eqb-true, eq-eqb, and_parts, and_from, not-true}
 use Rattle.std.proofs.lemmas.List.Folds.{list_all-append}
 use Rattle.std.proofs.lemmas.List.Sums.{list_all-from_AllPass}
 use Rattle.hex.specs.Hex.{is_hex_digit}
@@ -58,12 +58,8 @@ digits_lack mark out (c ∷ cs) (first, others) = and_from (not (c == mark)) (la
 pub decimal_lacks : (mark : ℕ) → (digit_value mark < 10 → ⊥) → (n : ℕ) → n < 2 ^ 64 → lacks mark (decimal n) ≡ true
 decimal_lacks mark out n small = digits_lack mark out (decimal n) ((decimal_is_digits (decimal n) n small).0 (small, refl)).digits
 
-pub is_false : (t : Bool) → not t ≡ true → t ≡ false
-is_false true e = absurd cc
-is_false false e = refl
-
 not_mark : (b mark : ℕ) → not (b == mark) ≡ true → (b == mark) ≡ false
-not_mark b mark e = is_false (b == mark) e
+not_mark b mark e = not-true (b == mark) e
 
 -- what stands before a mark, and behind it
 pub cut_front : (mark : ℕ) (xs ys : List ℕ) → lacks mark xs ≡ true → before mark (xs ++ mark ∷ ys) ≡ xs

@@ -1,18 +1,11 @@
 -- Reading words one after the other, as a loop does.
-use Rattle.std.proofs.Common.{◌≡◌, ◌≢◌, ℕ, suc, ◌-◌, ◌≤◌, ◌<◌, List, [], ◌∷◌, ◌++◌, length, Option, Some, None, Err, refl, sym, ap, ◌∙◌, append_assoc, length-append, arith}
+use Rattle.std.proofs.Common.{◌≡◌, ◌≢◌, ℕ, suc, ◌-◌, ◌≤◌, ◌<◌, List, [], ◌∷◌, ◌++◌, length, Option, Some, None, Err, refl, sym, ap, ◌∙◌, length-append, arith}
 use Rattle.std.proofs.lemmas.List.{append-nil}
 use Rattle.iot_bytes.specs.declared.memory.ReadError.{ReadError}
 use Rattle.iot_bytes.specs.declared.memory.ReadError.TheVariants.{Malformed, NoMemory}
 use Rattle.sgp_der.specs.Fields.{◌>>=◌, Gives}
+use Rattle.sgp_fields.proofs.Loop.{with_front, regroup}
 use Rattle.iot_schedule.specs.Words.{word_at, list_of, GivesWord}
-
--- what was read before, and what is still read
-abbrev pub with_front : {X : Type 0} → List X → Option (List X) → Option (List X)
-with_front front read = read >>= λ xs. Some (front ++ xs)
-
-regroup : {X : Type 0} (front : List X) (x : X) (read : Option (List X)) → with_front front (read >>= λ xs. Some (x ∷ xs)) ≡ with_front (front ++ x ∷ []) read
-regroup {X} front x (Some xs) = ap (λ (all : List X). Some all) (sym (append_assoc front (x ∷ []) xs))
-regroup front x None = refl
 
 spread : {X : Type 0} (r : Option X) (n : ℕ) (of : List ℕ → Option X) (ws : List (List ℕ)) → (r >>= λ x. list_of of n ws >>= λ xs. Some (x ∷ xs)) ≡ ◌>>=◌ {A = X × List (List ℕ)} (◌>>=◌ {B = X × List (List ℕ)} r (λ x. Some (x, ws))) (λ p. list_of of n p.1 >>= λ xs. Some (p.0 ∷ xs))
 spread (Some x) n of ws = refl
@@ -31,10 +24,6 @@ none_left of w ws = refl
 at_end : {X : Type 0} (of : List ℕ → Option X) (n : ℕ) → list_of of n [] ≡ Some []
 unfolding list_of
 at_end of n = refl
-
-pub starts : {X : Type 0} (read : Option (List X)) → with_front [] read ≡ read
-starts (Some xs) = refl
-starts None = refl
 
 pub goes_on : {X : Type 0} (of : List ℕ → Option X) (most : ℕ) (front : List X) (ws left : List (List ℕ)) (x : X) (total : Option (List X)) → length front < most → ws ≢ [] → word_at of ws ≡ Some (x, left)
     → with_front front (list_of of (most - length front) ws) ≡ total → with_front (front ++ x ∷ []) (list_of of (most - length (front ++ x ∷ [])) left) ≡ total

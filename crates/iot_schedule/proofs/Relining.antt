@@ -8,6 +8,7 @@ use Rattle.std.proofs.lemmas.List.Splits.{slice_split_at, slice_split_none}
 use Rattle.std.proofs.lemmas.List.Sums.{AllPass-from_list_all}
 use Rattle.iot_bytes.specs.Hexes.{hex}
 use Rattle.iot_bytes.specs.Tokens.{is_space}
+use Rattle.std.proofs.lemmas.Bool.{not-true}
 use Rattle.iot_schedule.specs.Words.{words, joined, spaced, word_at, last_word, no_word}
 use Rattle.sgp_fields.proofs.Steps.{only_if_again}
 use Rattle.sgp_values.specs.Iccids.{IsIccid}
@@ -37,7 +38,7 @@ use Rattle.iot_schedule.specs.Devices.{device_of, device_line, device_at}
 use Rattle.iot_schedule.specs.Steps.{eim_line, initial_line, bind_line, order_line, skip_line, kept_line, poll_line, up_line, down_line, verdict_of, load_line, probe_line, cut_line, detach_line, bare_line, device_step, assistant_step, network_step, eim_step, step_line, step_at}
 use Rattle.iot_schedule.specs.Spelling.{address_text, key_text, sign_text, profile_text, pick_text, bytes_text, tear_text, psmo_text, optional_text, eco_text, body_words, device_words, verdict_words, good_text, probe_text, step_words, device_text, step_text}
 use Rattle.iot_schedule.specs.Ranges.{IsDevice, IsPick, IsStep}
-use Rattle.iot_schedule.proofs.Lacking.{lacks, is_false, lacks_both, lacks_passing, hex_lacks, decimal_lacks}
+use Rattle.iot_schedule.proofs.Lacking.{lacks, lacks_both, lacks_passing, hex_lacks, decimal_lacks}
 use Rattle.iot_schedule.proofs.Rereading.{number_again, eid_word_again, address_word_again, key_word_again, profile_again, pick_again, bytes_again, tear_again}
 use Rattle.iot_schedule.proofs.Reordering.{list_again, body_again}
 
@@ -46,7 +47,7 @@ abbrev pub IsWord : List ℕ → Type 0
 IsWord w = lacks 32 w ≡ true
 
 no_space : (w : List ℕ) → IsWord w → All (λ b. is_space b ≡ false) w
-no_space w e k d lt = is_false _ (AllPass-from_list_all (λ b. not (b == 32)) w e k d lt)
+no_space w e k d lt = not-true _ (AllPass-from_list_all (λ b. not (b == 32)) w e k d lt)
 
 -- the words that were joined are the words of the text
 pub words_joined : (w : List ℕ) (ws : List (List ℕ)) → IsWord w → Every IsWord ws → words (joined (w ∷ ws)) ≡ w ∷ ws

@@ -64,7 +64,3 @@ told_same a w = record { history = refl; marks = refl; lit = refl; plan = refl }
 pub answered_plan : (c : Command) (w : SmallWorld) → w.lit ≡ true → (commanded c false w).plan ≡ None
 unfolding commanded
 answered_plan c w lit = ap (λ b. (cond {A = SmallWorld} b (answered_step c w) w).plan) lit
-
-pub commanded_lit : (c : Command) (w : SmallWorld) → w.lit ≡ true → commanded c false w ≡ answered_step c w
-unfolding commanded
-commanded_lit c w lit = ap (λ b. cond b (answered_step c w) w) lit

@@ -10,10 +10,12 @@ use Rattle.iot_schedule.specs.declared.types.Device.{Device}
 use Rattle.iot_schedule.specs.declared.types.Line.{Line}
 use Rattle.modem_bank.specs.Modems.{Seen as ModemSeen, told, KeepsShowing}
 use Rattle.small_world.specs.Lines.{acted, attended}
+use Rattle.small_world.specs.Modems.{without_taken}
 use Rattle.small_world.specs.Octets.{most_octets_sent, octets_sent, IsWithin}
 use Rattle.small_world.specs.Runs.{after_turn}
 use Rattle.small_world.specs.Stepping.{IsSameCard}
 use Rattle.small_world.specs.Worlds.{SmallWorld, start_world, started}
+use Rattle.small_world.proofs.Attending.{acted_modems, taken_map}
 use Rattle.world_card.specs.Benches.{held_in}
 use Rattle.world_card.specs.Starts.{IsStarted}
 use Rattle.world_card.proofs.Same.{same_card}
@@ -21,26 +23,20 @@ use Rattle.world_network.specs.Networks.{Parts, IsNetwork}
 use Rattle.world_network.proofs.Standing.{network_alike}
 use Rattle.iot_world.specs.Starts.{IsBegun}
 use Rattle.iot_world.specs.Steps.{Acts, IsActed}
-use Rattle.iot_world.specs.Turns.{IsTurned, KeepsBy, Turns, left_by, told_by}
+use Rattle.iot_world.specs.Turns.{IsTurned, KeepsBy, Turns, told_by}
 use Rattle.iot_world.specs.Worlds.{StandsFor}
 use Rattle.iot_world.specs.declared.ends.Halt.{Halt}
 use Rattle.iot_world.specs.declared.ends.Halt.TheVariants.{Limit, Foreign, NoMemory}
 use Rattle.iot_world.specs.declared.world.World.{World}
-use Rattle.iot_world.proofs.Attaching.{acted_left, left_map, over_left}
+use Rattle.iot_world.proofs.Attaching.{over_left}
 
 -- a lit card tells the modems, and a dark one nothing
 pub lit_told : (held : Option FullCard) (f : FullCard) (now : Option (List ℕ)) (before after : List ModemSeen) → held ≡ Some f → now ≡ enabled_of f.card.profiles → after ≡ told now before → after ≡ told_by held before
 lit_told held f now before after is enabled told_is = told_is ∙ ap (λ (e : Option (List ℕ)). told e before) enabled ∙ ap (λ (o : Option FullCard). told_by o before) (sym is)
 
-pub dark_told : (held : Option FullCard) (before : List ModemSeen) → held ≡ None → before ≡ told_by held before
-dark_told held before is = ap (λ (o : Option FullCard). told_by o before) (sym is)
-
 pub lit_kept : {M : Type 0} (shown : M → Option (List ℕ)) (held : Option FullCard) (f : FullCard) (now : Option (List ℕ)) (before after : List M) → held ≡ Some f → now ≡ enabled_of f.card.profiles → KeepsShowing shown now before after → KeepsBy shown held before after
 lit_kept shown held f now before after is enabled kept =
     subst (λ (o : Option FullCard). KeepsBy shown o before after) (sym is) (subst (λ (e : Option (List ℕ)). KeepsShowing shown e before after) enabled kept)
-
-pub dark_kept : {M : Type 0} (shown : M → Option (List ℕ)) (held : Option FullCard) (before : List M) → held ≡ None → KeepsBy shown held before before
-dark_kept shown held before is = subst (λ (o : Option FullCard). KeepsBy shown o before before) (sym is) refl
 
 -- what the card's power makes of what is told
 told_by_power : (lit : Bool) (f : FullCard) (ms : List ModemSeen) → told_by (cond lit (Some f) None) ms ≡ cond lit (told (enabled_of f.card.profiles) ms) ms
@@ -64,7 +60,7 @@ attended_stands : (first : ℕ) (v : World) (s : Seen) (w : SmallWorld) → Stan
 attended_stands first v s w h = record { network = attended_network v.network w h.network; card = same_card first v.card s w (attended w) (attended_same w) h.card }
 
 -- a line whose turn was taken, and at whose end the modems were told
-pub turned_told : (first : ℕ) (l : Line) (w : SmallWorld) (v : World) (s t : Seen) (before out : List ℕ) (modems : List ModemSeen) → IsActed first l w v s t before out → modems ≡ told_by v.card (left_by l w.modems) → IsTurned first l w v s t modems before out
+pub turned_told : (first : ℕ) (l : Line) (w : SmallWorld) (v : World) (s t : Seen) (before out : List ℕ) (modems : List ModemSeen) → IsActed first l w v s t before out → modems ≡ told_by v.card (without_taken l w.modems) → IsTurned first l w v s t modems before out
 unfolding after_turn attended
 turned_told first l w v s t before out modems a told_is =
     let now = acted l a.lost a.taken w in
@@ -75,18 +71,18 @@ turned_told first l w v s t before out modems a told_is =
       says = a.says;
       stands = record {
         world = attended_stands first v t now a.stands;
-        same_modems = told_is ∙ told_in now v.card (left_by l w.modems) a.stands.card.held_is (sym (acted_left w l a.lost a.taken));
+        same_modems = told_is ∙ told_in now v.card (without_taken l w.modems) a.stands.card.held_is (sym (acted_modems w l a.lost a.taken));
       };
       counts = a.counts;
       woken = a.woken;
     }
 
 -- the same modems, as they are seen
-pub left_told : {T : Type 0} (view : T → ModemSeen) (l : Line) (held : Option FullCard) (old mid new : List T) (ms : List ModemSeen) → mid ≡ left_by l old → map view old ≡ ms → map view new ≡ told_by held (map view mid) → map view new ≡ told_by held (left_by l ms)
+pub left_told : {T : Type 0} (view : T → ModemSeen) (l : Line) (held : Option FullCard) (old mid new : List T) (ms : List ModemSeen) → mid ≡ without_taken l old → map view old ≡ ms → map view new ≡ told_by held (map view mid) → map view new ≡ told_by held (without_taken l ms)
 left_told view l held old mid new ms left same told_is =
-    told_is ∙ ap (λ (xs : List _). told_by held (map view xs)) left ∙ ap (λ (xs : List ModemSeen). told_by held xs) (sym (left_map view l old) ∙ ap (λ (xs : List ModemSeen). left_by l xs) same)
+    told_is ∙ ap (λ (xs : List _). told_by held (map view xs)) left ∙ ap (λ (xs : List ModemSeen). told_by held xs) (sym (taken_map view l old) ∙ ap (λ (xs : List ModemSeen). without_taken l xs) same)
 
-pub left_kept : {T : Type 0} (shown : T → Option (List ℕ)) (l : Line) (held : Option FullCard) (old mid new : List T) → mid ≡ left_by l old → KeepsBy shown held mid new → KeepsBy shown held (left_by l old) new
+pub left_kept : {T : Type 0} (shown : T → Option (List ℕ)) (l : Line) (held : Option FullCard) (old mid new : List T) → mid ≡ without_taken l old → KeepsBy shown held mid new → KeepsBy shown held (without_taken l old) new
 left_kept shown l held old mid new left kept = subst (λ (xs : List _). KeepsBy shown held xs new) left kept
 
 -- a line that halts tells no modem; where a message passes the limit none is taken away either
@@ -94,7 +90,7 @@ within_limit : (n : Parts) (w : SmallWorld) → IsNetwork n w → octets_sent w 
 unfolding IsWithin
 within_limit n w h = h.within
 
-pub over_seen : {T : Type 0} (view : T → ModemSeen) (l : Line) (n : Parts) (w : SmallWorld) (old new : List T) → IsNetwork n w → new ≡ left_by l old → map view old ≡ w.modems → most_octets_sent < octets_sent (acted l false false w) → map view new ≡ w.modems
+pub over_seen : {T : Type 0} (view : T → ModemSeen) (l : Line) (n : Parts) (w : SmallWorld) (old new : List T) → IsNetwork n w → new ≡ without_taken l old → map view old ≡ w.modems → most_octets_sent < octets_sent (acted l false false w) → map view new ≡ w.modems
 over_seen view l n w old new h left same over = ap (λ (xs : List _). map view xs) (left ∙ over_left w l old (within_limit n w h) over) ∙ same
 
 pub turned_halt : (first : ℕ) (l : Line) (w : SmallWorld) (halt : Halt) (v : World) (s t : Seen) (before out : List ℕ) (modems : List ModemSeen) → Acts first l w (Err halt) v s t before out → (most_octets_sent < octets_sent (acted l false false w) → modems ≡ w.modems) → Turns first l w (Err halt) v s t modems before out

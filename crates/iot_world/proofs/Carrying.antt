@@ -22,9 +22,10 @@ use Rattle.world_card.specs.Benches.{HoldsWorld}
 use Rattle.world_card.specs.Counts.{Counted}
 use Rattle.world_card.proofs.Same.{same_holds, same_card}
 use Rattle.world_network.specs.Networks.{Parts, IsNetwork}
+use Rattle.world_card.proofs.Commanding.{commanded_lit}
+use Rattle.world_card.specs.Boots.{IsBefore}
 use Rattle.iot_world.specs.Asking.{Asks, IsAsked, IsUnheard, IsOff, IsOver, IsCutOff, SaysPushed, sent_after}
 use Rattle.iot_world.specs.Carrying.{Gives, IsCarried, PrintsAlso, SaysAlso}
-use Rattle.iot_world.specs.Ends.{IsBefore}
 use Rattle.iot_world.specs.Steps.{Acts, IsActed, IsActedShort, IsOverLimit}
 use Rattle.iot_world.specs.Worlds.{StandsFor}
 use Rattle.iot_world.specs.declared.asking.Asked.{Asked}
@@ -32,7 +33,7 @@ use Rattle.iot_world.specs.declared.asking.Asked.TheVariants.{Answered, Silent}
 use Rattle.iot_world.specs.declared.ends.Halt.{Halt}
 use Rattle.iot_world.specs.declared.ends.Halt.TheVariants.{Limit, Foreign, NoMemory}
 use Rattle.iot_world.specs.declared.world.World.{World}
-use Rattle.iot_world.proofs.Around.{asked_answered, asked_lost, told_same, commanded_lit}
+use Rattle.iot_world.proofs.Around.{asked_answered, asked_lost, told_same}
 use Rattle.iot_world.proofs.Replied.{lit_fate, dark_fate, lit_loses, dark_loses, lit_says, dark_says, dark_commanded}
 use Rattle.iot_world.proofs.Turning.{turned, turned_short}
 

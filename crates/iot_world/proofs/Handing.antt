@@ -25,9 +25,10 @@ use Rattle.world_card.proofs.Same.{same_holds, same_card}
 use Rattle.world_network.specs.Networks.{Parts, IsNetwork}
 use Rattle.world_network.specs.declared.mail.SendEnd.{SendEnd}
 use Rattle.world_network.specs.declared.mail.SendEnd.TheVariants as send
+use Rattle.world_card.specs.Boots.{IsBefore}
 use Rattle.iot_world.specs.Asking.{Says}
 use Rattle.iot_world.specs.Carrying.{Gives}
-use Rattle.iot_world.specs.Ends.{IsBefore, of_send}
+use Rattle.iot_world.specs.Ends.{of_send}
 use Rattle.iot_world.specs.Handing.{Hands, IsHanded, is_loaded}
 use Rattle.iot_world.specs.Steps.{Acts, IsActedShort}
 use Rattle.iot_world.specs.Worlds.{StandsFor}

@@ -1,5 +1,5 @@
 -- What stands after the card was given a command of the assistant.
-use Rattle.std.proofs.Common.{◌≡◌, ◌⊎◌, inl, inr, ◌<◌, ℕ, Bool, true, false, List, ◌++◌, length, Option, None, Result, Ok, Err, refl, sym, ◌∙◌, ap, subst, arith}
+use Rattle.std.proofs.Common.{◌≡◌, ◌⊎◌, inl, inr, ◌<◌, ℕ, true, false, List, ◌++◌, length, Option, None, Result, Ok, Err, refl, sym, ◌∙◌, ap, subst}
 use Rattle.std.proofs.lemmas.Bool.{false≢true}
 use Rattle.chip_port.specs.Seen.{Seen}
 use Rattle.small_card.specs.Cards.{FullCard}
@@ -15,11 +15,10 @@ use Rattle.small_world.specs.Texts.{said, lost_text, off}
 use Rattle.small_world.specs.Worlds.{SmallWorld}
 use Rattle.world_card.specs.Commands.{IsAnswered, IsLost, IsIdle, IsShort}
 use Rattle.world_card.specs.Counts.{Counted, short_fate}
-use Rattle.world_card.proofs.Counting.{same_past}
 use Rattle.world_card.proofs.Same.{same_card}
 use Rattle.world_network.specs.Networks.{Parts, IsNetwork}
+use Rattle.world_card.specs.Boots.{IsBefore}
 use Rattle.iot_world.specs.Asking.{Asks, IsAsked, IsOver, IsCutOff, IsStepped, IsTold, Tells, SaysSilent, sent_after}
-use Rattle.iot_world.specs.Ends.{IsBefore}
 use Rattle.iot_world.specs.Worlds.{StandsFor}
 use Rattle.iot_world.specs.declared.asking.Asked.{Asked}
 use Rattle.iot_world.specs.declared.asking.Asked.TheVariants.{Answered, Silent}
@@ -91,22 +90,6 @@ unheard first w c (Ok Silent) v s t before out n d says = inl (record {
 unheard first w c (Err Limit) v s t before out n d says = absurd says
 unheard first w c (Err Foreign) v s t before out n d says = says
 unheard first w c (Err NoMemory) v s t before out n d says = inr (record { lost = true; stepped = stepped_lost first w c v.card s t d })
-
--- nothing was counted
-pub idle_counted : (far : Bool) (s : Seen) → Counted (short_fate far) s s
-idle_counted far s = record {
-  told = refl;
-  faults = omega arith;
-  cuts = omega arith;
-  breaks = omega arith;
-  uses = omega arith;
-  most = omega arith;
-  plans = refl;
-  lost = λ is. absurd (false≢true is);
-  answers = refl;
-  now = λ is. absurd (false≢true is);
-  past = same_past s.marks;
-}
 
 -- the card is dark
 pub dark : (first : ℕ) (w : SmallWorld) (c : Command) (result : Result Asked Halt) (v : World) (s t : Seen) (before out : List ℕ) → IsNetwork v.network w → IsIdle first w v.card t → Counted (short_fate (is_far w.plan)) s t → SaysSilent off before out result

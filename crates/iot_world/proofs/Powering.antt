@@ -15,12 +15,11 @@ use Rattle.small_world.specs.Stepping.{attempt, booted}
 use Rattle.small_world.specs.Stretches.{Fate, fate_of, is_far, is_costly, is_cut}
 use Rattle.small_world.specs.Texts.{lost_text}
 use Rattle.small_world.specs.Worlds.{SmallWorld}
-use Rattle.world_card.specs.Boots.{IsBooted, IsLostBoot, IsShortBoot}
+use Rattle.world_card.specs.Boots.{IsBooted, IsLostBoot, IsBefore}
 use Rattle.world_card.specs.Plans.{IsPlanned, Planned}
 use Rattle.world_card.specs.Counts.{Counted, short_fate}
 use Rattle.world_network.specs.Networks.{IsNetwork}
 use Rattle.iot_world.specs.Asking.{Says}
-use Rattle.iot_world.specs.Ends.{IsBefore}
 use Rattle.iot_world.specs.Steps.{Acts, IsActedShort, turn}
 use Rattle.iot_world.specs.declared.ends.Halt.{Halt}
 use Rattle.iot_world.specs.declared.ends.Halt.TheVariants.{Limit, Foreign, NoMemory}
@@ -109,9 +108,6 @@ boot_lost first w (Err NoMemory) v s t before out n b says = inr (record {
   counts = subst (λ (f : Fate). Counted f s t) (boot_fate w true false) b.counts;
   woken = λ boot lost. absurd (false≢true (sym lost));
 })
-
-pub boot_short : (first : ℕ) (w : SmallWorld) (s t : Seen) → IsShortBoot first w s t → IsBefore first w s t ⊎ IsActedShort first line.Boot w s t
-boot_short first w s t b = inl (record { holds = b.holds; counts = b.counts })
 
 -- a plan doesn't step the card
 cut_steps : (w : SmallWorld) (calls : ℕ) (tear : Tear) → steps_card w (line.Cut calls tear) ≡ false

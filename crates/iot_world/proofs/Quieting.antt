@@ -26,6 +26,7 @@ use Rattle.small_world.specs.Worlds.{SmallWorld, eid_of}
 use Rattle.trace_text.specs.Texts.{kept_text}
 use Rattle.world_network.proofs.Standing.{polled_known}
 use Rattle.world_network.specs.Networks.{Parts, IsNetwork, heard_of, said_to, up_end}
+use Rattle.std.proofs.lemmas.Option.{same_Some}
 use Rattle.iot_world.specs.Asking.{Says}
 use Rattle.iot_world.specs.Quiet.{QuietEnd}
 use Rattle.iot_world.specs.declared.ends.Halt.{Halt}
@@ -43,18 +44,10 @@ abbrev HasOne : {X : Type 0} → Option X → Type 0
 HasOne None = ⊥
 HasOne (Some x) = Unit {0}
 
-value_or : {X : Type 0} → X → Option X → X
-value_or d None = d
-value_or d (Some x) = x
-
-same_value : {X : Type 0} (x y : X) → Some x ≡ Some y → x ≡ y
-unfolding value_or
-same_value {X} x y is = ap (λ (o : Option X). value_or x o) is
-
 -- the eIM's answer as text, and that it isn't there
 there : {X : Type 0} (text : X → List ℕ) (of : EimState → X) (o : Option EimState) (x : X) → Some x ≡ option_map of o → text x ≡ of_eim (λ e. text (of e)) o
 unfolding of_eim
-there {X} text of (Some e) x is = ap (λ (y : X). text y) (same_value x (of e) is)
+there {X} text of (Some e) x is = ap (λ (y : X). text y) (same_Some x (of e) is)
 there {X} text of None x is = absurd (subst (λ (o : Option X). HasOne o) is tt)
 
 absent : {X : Type 0} (text : X → List ℕ) (of : EimState → X) (o : Option EimState) → None ≡ option_map of o → no_such ≡ of_eim (λ e. text (of e)) o
@@ -160,7 +153,7 @@ unpolled_text w id known is fails = ap (λ (b : Bool). cond b (sent_text (length
 said_text : (w : SmallWorld) (p : Post) (o : Option EimState) (end : MessageEnd) (place : ℕ) → Some end ≡ said_to p o → place ≡ length w.to_ipa → answer_text place end ≡ of_eim (λ e. answer_text (length w.to_ipa) (message_end p.message e)) o
 unfolding said_to of_eim
 said_text w p None end place is at = absurd (subst (λ (o : Option MessageEnd). HasOne o) is tt)
-said_text w p (Some e) end place is at = ap (λ (x : MessageEnd). answer_text place x) (same_value end (message_end p.message e) is) ∙ ap (λ (n : ℕ). answer_text n (message_end p.message e)) at
+said_text w p (Some e) end place is at = ap (λ (x : MessageEnd). answer_text place x) (same_Some end (message_end p.message e) is) ∙ ap (λ (n : ℕ). answer_text n (message_end p.message e)) at
 
 unsaid_text : (w : SmallWorld) (p : Post) (o : Option EimState) → None ≡ said_to p o → no_such ≡ of_eim (λ e. answer_text (length w.to_ipa) (message_end p.message e)) o
 unfolding said_to of_eim

@@ -1,5 +1,5 @@
 -- A line that doesn't reach the card takes a turn of the small world.
-use Rattle.std.proofs.Common.{◌≡◌, inl, ℕ, Bool, true, false, List, Option, None, Result, Ok, Err, refl, sym, ◌∙◌, ap, subst, arith}
+use Rattle.std.proofs.Common.{◌≡◌, inl, ℕ, Bool, true, false, List, Option, None, Result, Ok, Err, refl, sym, ◌∙◌, ap, subst}
 use Rattle.std.specs.Prelude.{◌&&◌, ◌||◌, is_some}
 use Rattle.std.proofs.lemmas.Bool.{false≢true}
 use Rattle.chip_port.specs.Seen.{Seen}
@@ -12,14 +12,13 @@ use Rattle.small_world.specs.Worlds.{SmallWorld}
 use Rattle.small_world.proofs.Reaching.{nothing_reaches}
 use Rattle.world_card.specs.Benches.{IsOnBench}
 use Rattle.world_card.specs.Counts.{Counted}
-use Rattle.world_card.proofs.Counting.{same_past}
+use Rattle.world_card.proofs.Counting.{still, idle_counted}
 use Rattle.world_card.proofs.Same.{same_card}
 use Rattle.iot_world.specs.Quiet.{QuietEnd}
 use Rattle.iot_world.specs.Steps.{Acts, turn}
 use Rattle.iot_world.specs.declared.ends.Halt.{Halt}
 use Rattle.iot_world.specs.declared.ends.Halt.TheVariants.{Limit, Foreign, NoMemory}
 use Rattle.iot_world.specs.declared.world.World.{World}
-use Rattle.iot_world.proofs.Heard.{idle_counted}
 
 -- a line that gives no command, is no boot and plans no cut
 pub record IsIdleLine (w : SmallWorld) (l : Line) : Type 0 where
@@ -38,22 +37,6 @@ idle_steps w l i =
 
 idle_may : (w : SmallWorld) (l : Line) → IsIdleLine w l → MayTurn w (turn l false false)
 idle_may w l i = record { lost = λ is. absurd (false≢true is); due = λ due steps. absurd (false≢true (sym (idle_steps w l i) ∙ steps)); taken = λ is. absurd (false≢true is) }
-
--- nothing was counted, whatever the line may cost
-still : (far costly : Bool) (s : Seen) → Counted (record { lost = false; unplanned = far; marked = false; costly = costly; planned = false }) s s
-still far costly s = record {
-  told = refl;
-  faults = omega arith;
-  cuts = omega arith;
-  breaks = omega arith;
-  uses = omega arith;
-  most = omega arith;
-  plans = refl;
-  lost = λ is. absurd (false≢true is);
-  answers = refl;
-  now = λ is. absurd (false≢true is);
-  past = same_past s.marks;
-}
 
 idle_fate : (w : SmallWorld) (l : Line) → IsIdleLine w l → record { lost = false; unplanned = is_far w.plan; marked = false; costly = is_costly l; planned = false } ≡ fate_of w (turn l false false)
 unfolding fate_of

@@ -16,7 +16,7 @@ use Rattle.small_world.specs.Worlds.{SmallWorld}
 use Rattle.world_card.specs.Benches.{HoldsWorld}
 use Rattle.world_card.specs.Counts.{Counted, short_fate}
 use Rattle.world_network.specs.Networks.{Parts, IsNetwork}
-use Rattle.iot_world.specs.Ends.{IsBefore}
+use Rattle.world_card.specs.Boots.{IsBefore}
 use Rattle.iot_world.specs.Worlds.{StandsFor}
 use Rattle.iot_world.specs.declared.asking.Asked.{Asked}
 use Rattle.iot_world.specs.declared.asking.Asked.TheVariants.{Answered, Silent}

@@ -7,8 +7,8 @@ use Rattle.small_world.specs.Stepping.{commanded}
 use Rattle.small_world.specs.Stretches.{Fate, is_far}
 use Rattle.small_world.specs.Worlds.{SmallWorld}
 use Rattle.world_card.specs.Counts.{Counted}
+use Rattle.world_card.specs.Boots.{IsBefore}
 use Rattle.iot_world.specs.Asking.{IsCutOff}
-use Rattle.iot_world.specs.Ends.{IsBefore}
 use Rattle.iot_world.specs.Worlds.{StandsFor}
 use Rattle.iot_world.specs.declared.ends.Halt.{Halt}
 use Rattle.iot_world.specs.declared.ends.Halt.TheVariants.{Limit, Foreign, NoMemory}

@@ -13,9 +13,8 @@ use Rattle.small_world.specs.Stepping.{commanded}
 use Rattle.small_world.specs.Stretches.{fate_of, is_far}
 use Rattle.small_world.specs.Worlds.{SmallWorld}
 use Rattle.world_card.specs.Benches.{HoldsWorld}
-use Rattle.world_card.specs.Boots.{IsWokenFor}
+use Rattle.world_card.specs.Boots.{IsWokenFor, IsBefore}
 use Rattle.world_card.specs.Counts.{Counted, answered_fate, short_fate}
-use Rattle.iot_world.specs.Ends.{IsBefore}
 use Rattle.iot_world.specs.Worlds.{StandsFor}
 use Rattle.iot_world.specs.declared.ends.Halt.{Halt}
 use Rattle.iot_world.specs.declared.ends.Halt.TheVariants.{Limit, Foreign, NoMemory}

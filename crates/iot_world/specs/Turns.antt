@@ -1,19 +1,17 @@
 -- One line of a schedule as a step of the small world, at whose end the modems are told.
-use Rattle.std.specs.Prelude.{◌≡◌, ◌⊎◌, ℕ, Bool, true, false, List, ◌++◌, length, nat_lt, if◌then◌else◌, Option, Some, None, Result, Ok, Err}
+use Rattle.std.specs.Prelude.{◌≡◌, ◌⊎◌, ℕ, Bool, true, false, List, ◌++◌, Option, Some, None, Result, Ok, Err}
 use Rattle.chip_port.specs.Seen.{Seen}
 use Rattle.small_card.specs.Cards.{FullCard}
 use Rattle.small_card.specs.Histories.{full_of}
 use Rattle.small_card.specs.Profiles.{enabled_of}
-use Rattle.modem_bank.specs.Modems.{Seen as ModemSeen, told, without, KeepsShowing}
+use Rattle.modem_bank.specs.Modems.{Seen as ModemSeen, told, KeepsShowing}
 use Rattle.iot_schedule.specs.declared.types.Line.{Line}
-use Rattle.iot_schedule.specs.declared.types.Line.TheVariants as line
 use Rattle.small_world.specs.Printing.{printed}
 use Rattle.small_world.specs.Runs.{MayTurn, after_turn, is_boot}
 use Rattle.small_world.specs.Stretches.{fate_of}
 use Rattle.small_world.specs.Worlds.{SmallWorld}
-use Rattle.world_card.specs.Boots.{IsWokenFor}
+use Rattle.world_card.specs.Boots.{IsWokenFor, IsBefore}
 use Rattle.world_card.specs.Counts.{Counted}
-use Rattle.iot_world.specs.Ends.{IsBefore}
 use Rattle.iot_world.specs.Steps.{IsActedShort, IsOverLimit, turn}
 use Rattle.iot_world.specs.Worlds.{StandsFor}
 use Rattle.iot_world.specs.declared.ends.Halt.{Halt}
@@ -24,11 +22,6 @@ use Rattle.iot_world.specs.declared.world.World.{World}
 pub record StandsWith (first : ℕ) (v : World) (s : Seen) (modems : List ModemSeen) (w : SmallWorld) : Type 0 where
   pub world : StandsFor first v s w
   pub same_modems : modems ≡ w.modems
-
--- A list after a line: `detach` takes the entry at its place out, if there is one.
-abbrev pub left_by : {A : Type 0} → Line → List A → List A
-left_by (line.Detach at) xs = if nat_lt at (length xs) then without at xs else xs
-left_by l xs = xs
 
 -- The modems are told by a lit card which profile it has enabled, and by a dark one nothing.
 abbrev pub told_by : Option FullCard → List ModemSeen → List ModemSeen

@@ -7,10 +7,11 @@ ghost use Rattle.chip_port.specs.Rules.{IfTold};
 ghost use Rattle.euicc_core.specs.Steps.{IsLitOn};
 ghost use Rattle.iot_schedule.specs.Ranges.{IsDevice, IsStep};
 ghost use Rattle.modem_bank.specs.Modems.{is_shown, seen, told_one};
+ghost use Rattle.small_world.specs.Modems.{without_taken};
 ghost use Rattle.small_world.specs.Texts.{modem_entry};
 ghost use Rattle.small_world.specs.Worlds.{SmallWorld};
 ghost use Rattle.iot_world.specs.Starts.{Begins};
-ghost use Rattle.iot_world.specs.Turns.{KeepsBy, StandsWith, Turns, left_by};
+ghost use Rattle.iot_world.specs.Turns.{KeepsBy, StandsWith, Turns};
 
 use crate::ends::Halt;
 use crate::world::World;
@@ -77,8 +78,8 @@ impl World {
             → Turns first line w result self.new (B.sees bench.old) (B.sees bench.new)
             (seen shown_iccid refresh_count modems.new.items) out.old out.new }
         ensures kept { IfOk result (λ _. KeepsBy shown_iccid self.new.card
-            (left_by line modems.old.items) modems.new.items) }
-        ensures halted { OnErr result (modems.new.items ≡ left_by line modems.old.items) }
+            (without_taken line modems.old.items) modems.new.items) }
+        ensures halted { OnErr result (modems.new.items ≡ without_taken line modems.old.items) }
     {
         self.step_with(
             alloc,

@@ -4,10 +4,11 @@ ghost use Rattle.std.specs.Prelude.{◌≡◌, ℕ, List, Option, false, map};
 ghost use Rattle.iot_schedule.specs.declared.types.Line.TheVariants as line;
 ghost use Rattle.modem_bank.specs.Modems.{Seen};
 ghost use Rattle.modem_bank.specs.Telling.{KeepsOne, TellsOne};
+ghost use Rattle.small_world.specs.Modems.{without_taken};
 ghost use Rattle.small_world.specs.Worlds.{SmallWorld};
 ghost use Rattle.world_text.specs.Putting.{PutsOne};
 ghost use Rattle.iot_world.specs.Asking.{Says};
-ghost use Rattle.iot_world.specs.Turns.{KeepsBy, told_by, left_by};
+ghost use Rattle.iot_world.specs.Turns.{KeepsBy, told_by};
 ghost use Rattle.small_world.specs.Printing.{printed};
 
 use crate::asking::put_word;
@@ -20,7 +21,7 @@ use world_text::put_modems_by;
 
 /// The modem at a place is taken away.
 pub(crate) fn detach<T: Drop>(modems: &mut Vec<T>, at: u32, out: &mut Row<u8>) -> Result<(), Halt>
-    ensures left { modems.new.items ≡ left_by (line.Detach at) modems.old.items }
+    ensures left { modems.new.items ≡ without_taken (line.Detach at) modems.old.items }
     ensures says { (w : SmallWorld) (view : T → Seen) → map view modems.old.items ≡ w.modems
         → Says (printed w (line.Detach at) false) out.old out.new result }
 {

@@ -7,11 +7,12 @@ ghost use Rattle.euicc_core.specs.Steps.{IsLitOn};
 ghost use Rattle.iot_schedule.specs.Ranges.{IsDevice, IsStep};
 ghost use Rattle.modem_bank.specs.Modems.{Seen};
 ghost use Rattle.modem_bank.specs.Telling.{KeepsOne, TellsOne};
+ghost use Rattle.small_world.specs.Modems.{without_taken};
 ghost use Rattle.small_world.specs.Worlds.{SmallWorld};
 ghost use Rattle.world_text.specs.Putting.{PutsOne};
 ghost use Rattle.iot_world.specs.Starts.{Begins};
 ghost use Rattle.iot_world.specs.Steps.{Acts};
-ghost use Rattle.iot_world.specs.Turns.{KeepsBy, StandsWith, Turns, left_by};
+ghost use Rattle.iot_world.specs.Turns.{KeepsBy, StandsWith, Turns};
 
 use crate::ends::Halt;
 use crate::modem_lines::{attend, detach, print};
@@ -77,7 +78,7 @@ impl World {
         requires ready { IfTold (B.sees bench.old) (IsLitOn self.old.card (B.sees bench.old)) }
         requires line { IsStep line }
         ensures ready { IfTold (B.sees bench.new) (IsLitOn self.new.card (B.sees bench.new)) }
-        ensures left { modems.new.items ≡ left_by line modems.old.items }
+        ensures left { modems.new.items ≡ without_taken line modems.old.items }
         ensures acts { (first : ℕ) (w : SmallWorld) (view : T → Seen) → PutsOne G.Fn put view
             → StandsWith first self.old (B.sees bench.old) (map view modems.old.items) w
             → Acts first line w result self.new (B.sees bench.old) (B.sees bench.new) out.old
@@ -141,9 +142,9 @@ impl World {
             → Turns first line w result self.new (B.sees bench.old) (B.sees bench.new)
             (map view modems.new.items) out.old out.new }
         ensures kept { (shown : T → Option (List ℕ)) → KeepsOne F.Fn tell shown
-            → IfOk result (λ _. KeepsBy shown self.new.card (left_by line modems.old.items)
+            → IfOk result (λ _. KeepsBy shown self.new.card (without_taken line modems.old.items)
             modems.new.items) }
-        ensures halted { OnErr result (modems.new.items ≡ left_by line modems.old.items) }
+        ensures halted { OnErr result (modems.new.items ≡ without_taken line modems.old.items) }
     {
         match self.act(alloc, line, bench, modems, put, out) {
             Ok(()) => {

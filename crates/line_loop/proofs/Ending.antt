@@ -1,11 +1,13 @@
 -- The turns of a run over lines, and how it ends.
-use Rattle.std.proofs.Common.{◌≡◌, ◌≢◌, ℕ, ◌+◌, ◌<◌, ◌≤◌, inl, inr, Bool, true, false, List, [], ◌∷◌, ◌++◌, length, Option, Some, Result, Ok, Err, refl, sym, subst, ◌∙◌, length-append, arith}
+use Rattle.std.proofs.Common.{◌≡◌, ◌≢◌, ℕ, ◌+◌, ◌<◌, ◌≤◌, Bool, true, false, List, [], ◌∷◌, ◌++◌, length, Option, Some, Result, Ok, Err, refl, sym, subst, ◌∙◌, length-append, arith}
 use Rattle.iot_bytes.specs.Causes.{Rose}
 use Rattle.run_loop.specs.Edges.{Edge, edge}
 use Rattle.run_loop.specs.Sends.{HasSent}
 use Rattle.run_loop.specs.declared.halt.SendStop.{SendStop}
 use Rattle.run_loop.specs.declared.halt.SendStop.TheVariants as sending
-use Rattle.run_loop.proofs.Going.{sent-more, sent-none, rose-since, rose-until}
+use Rattle.run_loop.proofs.Causes.{last_causes, more_causes, no_causes}
+use Rattle.run_loop.proofs.Going.{sent-more, sent-none}
+use Rattle.run_loop.specs.Parts.{Walk}
 use Rattle.line_loop.specs.declared.reading.TheConstants.{MOST_LINES}
 use Rattle.line_loop.specs.declared.halt.LineStop.{LineStop}
 use Rattle.line_loop.specs.declared.halt.NoLine.{NoLine}
@@ -16,7 +18,7 @@ use Rattle.line_loop.specs.declared.halt.Halt.TheVariants.{Reading, Handling, En
 use Rattle.line_loop.specs.Lines.{IsTaken, NoLineAt}
 use Rattle.line_loop.specs.Sends.{HasSentInto, SentLast, SentBehind, Closes, Closed, stop_line}
 use Rattle.line_loop.specs.Status.{halt_status, has_stop_line, is_end}
-use Rattle.line_loop.specs.Parts.{Walk, Stopping}
+use Rattle.line_loop.specs.Parts.{Stopping}
 use Rattle.line_loop.specs.Parts as parts
 use Rattle.line_loop.specs.Runs.{Progress, Halted, Concludes, IsNumbered, SentBefore, SentFor, Ended, line_behind}
 use Rattle.line_loop.proofs.Going.{sent_into, taken_more, taken_none}
@@ -42,7 +44,7 @@ at_first walk e begins = record {
   stands = begins;
   taken = taken_none e.rest;
   sent = sent-none e.sent;
-  causes = record { read_later = omega arith; write_later = omega arith; read = λ no. absurd no; write = λ no. absurd no };
+  causes = no_causes e;
 }
 
 -- a line was handled, and its text was sent
@@ -57,12 +59,7 @@ handled walk next old before now count l text p did taken sent read_later write_
   stands = did p.lines p.text p.stands;
   taken = taken_more old.rest before.rest now.rest p.lines l p.taken taken;
   sent = sent-more old.sent before.sent now.sent p.text text p.sent sent;
-  causes = record {
-    read_later = omega (arith, p.causes.read_later, read_later);
-    write_later = omega (arith, p.causes.write_later, write_later);
-    read = λ no. absurd no;
-    write = λ no. absurd no;
-  };
+  causes = more_causes old before now p.causes read_later write_later (λ no. absurd no) (λ no. absurd no);
 }
 
 -- there is no further line
@@ -83,12 +80,7 @@ read_no_more walk stops old before now count stop few p none same read_later wri
         (tail, taken, subst (λ (n : ℕ). NoLineAt n tail now.rest stop) (sym p.counted) (none tail at)),
   );
   sent = λ sent0 is. same ∙ p.sent sent0 is;
-  causes = record {
-    read_later = omega (arith, p.causes.read_later, read_later);
-    write_later = omega (arith, p.causes.write_later, write_later);
-    read = λ at. let fault : stop ≡ reading.Fault = cc in rose-since old.read_faults before.read_faults now.read_faults p.causes.read_later (rose fault);
-    write = λ at. absurd cc;
-  };
+  causes = more_causes old before now p.causes read_later write_later (λ at. let fault : stop ≡ reading.Fault = cc in rose fault) (λ at. absurd cc);
 }
 
 -- the part stops at a line
@@ -111,12 +103,7 @@ handle_no_more walk next stops old before now count l stop few p did taken same 
         (tail, first, taken tail at),
   );
   sent = λ sent0 is. same ∙ p.sent sent0 is;
-  causes = record {
-    read_later = omega (arith, p.causes.read_later, read_later);
-    write_later = omega (arith, p.causes.write_later, write_later);
-    read = λ at. absurd cc;
-    write = λ at. absurd cc;
-  };
+  causes = more_causes old before now p.causes read_later write_later (λ at. absurd cc) (λ at. absurd cc);
 }
 
 -- the text of a line wasn't sent whole
@@ -132,12 +119,7 @@ cut_short walk next stops old before now count l text few p did taken sent read_
   unasked = λ end at. cc;
   reason = (did p.lines p.text p.stands, taken_more old.rest before.rest now.rest p.lines l p.taken taken);
   sent = record { before = p.text; last = text; parts = refl; sent = sent_into old.sent before.sent now.sent p.text text p.sent sent };
-  causes = record {
-    read_later = omega (arith, p.causes.read_later, read_later);
-    write_later = omega (arith, p.causes.write_later, write_later);
-    read = λ at. absurd cc;
-    write = λ at. rose-since old.write_faults before.write_faults now.write_faults p.causes.write_later rose;
-  };
+  causes = more_causes old before now p.causes read_later write_later (λ at. absurd cc) (λ at. rose);
 }
 
 -- a closing text was sent behind a text, or not whole
@@ -198,15 +180,7 @@ stopped_early behind stops ends old rest reads sent sent' writes writes' number 
   reason = h.reason;
   concludes = concluded ends h.lines h.text halt not_end h.unasked;
   sent = sent_for halt old.sent sent sent' (length h.lines) h.text number closing not_end h.numbered h.sent did;
-  causes = record {
-    read_later = h.causes.read_later;
-    write_later = omega (arith, h.causes.write_later, later);
-    read = h.causes.read;
-    write = λ at. elim at [
-      | inl failed ↦ rose-until old.write_faults writes writes' (h.causes.write failed) later
-      | inr failed ↦ rose-since old.write_faults writes writes' h.causes.write_later (rose failed)
-    ];
-  };
+  causes = last_causes old (edge rest reads sent writes) (edge rest reads sent' writes') h.causes refl later rose (λ at. at) (λ at. at);
 }
 
 -- the input ended, and the closing text was sent, or not whole
@@ -221,15 +195,7 @@ finished behind stops ends old rest reads sent sent' writes writes' number last 
   reason = h.reason;
   concludes = closes h.lines h.text h.reason.0;
   sent = sent_behind old.sent sent sent' h.text last closing h.sent did;
-  causes = record {
-    read_later = h.causes.read_later;
-    write_later = omega (arith, h.causes.write_later, later);
-    read = h.causes.read;
-    write = λ at. elim at [
-      | inl failed ↦ absurd cc
-      | inr failed ↦ rose-since old.write_faults writes writes' h.causes.write_later (rose failed)
-    ];
-  };
+  causes = last_causes old (edge rest reads sent writes) (edge rest reads sent' writes') h.causes refl later rose (λ at. at) (λ at. at);
 }
 
 -- the input ended where it may not
@@ -245,13 +211,5 @@ unfinished behind stops ends old rest reads sent sent' writes writes' number sto
   reason = h.reason;
   concludes = closes h.lines h.text h.reason.0;
   sent = closed_at (Ending stop) old.sent sent sent' h.text (length h.lines) number closing h.numbered h.sent did;
-  causes = record {
-    read_later = h.causes.read_later;
-    write_later = omega (arith, h.causes.write_later, later);
-    read = λ at. absurd cc;
-    write = λ at. elim at [
-      | inl failed ↦ absurd cc
-      | inr failed ↦ rose-since old.write_faults writes writes' h.causes.write_later (rose failed)
-    ];
-  };
+  causes = last_causes old (edge rest reads sent writes) (edge rest reads sent' writes') h.causes refl later rose (λ at. absurd cc) (λ at. absurd cc);
 }

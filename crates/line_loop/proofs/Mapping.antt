@@ -4,6 +4,7 @@ use Rattle.std.proofs.Common.{◌≡◌, ℕ, ◌≤◌, List, length, Option, R
 use Rattle.run_loop.specs.Edges.{Edge}
 use Rattle.run_loop.specs.declared.halt.SendStop.{SendStop}
 use Rattle.run_loop.specs.declared.halt.SendStop.TheVariants as sending
+use Rattle.run_loop.specs.Parts.{Walk}
 use Rattle.line_loop.specs.declared.reading.TheConstants.{MOST_LINES}
 use Rattle.line_loop.specs.declared.halt.NoLine.TheVariants as reading
 use Rattle.line_loop.specs.declared.halt.LineStop.{LineStop}
@@ -13,7 +14,7 @@ use Rattle.line_loop.specs.declared.halt.EndStop.TheVariants as ending
 use Rattle.line_loop.specs.declared.halt.Halt.{Halt}
 use Rattle.line_loop.specs.declared.halt.Halt.TheVariants.{Reading, Handling, Ending, Sending}
 use Rattle.line_loop.specs.declared.halt.RunEnd.{RunEnd}
-use Rattle.line_loop.specs.Parts.{Walk, Stopping}
+use Rattle.line_loop.specs.Parts.{Stopping}
 use Rattle.line_loop.specs.Parts as parts
 use Rattle.line_loop.specs.Runs.{Reason, Concludes, Ended}
 use Rattle.line_loop.specs.Status.{exit_status}

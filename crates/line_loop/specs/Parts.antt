@@ -1,5 +1,6 @@
 -- What a part says of itself, and what it does with a line.
 use Rattle.std.specs.Prelude.{◌≡◌, ℕ, List, [], ◌∷◌, ◌++◌, Result, Ok, Err}
+use Rattle.run_loop.specs.Parts.{Walk}
 use Rattle.line_loop.specs.declared.halt.LineStop.{LineStop}
 use Rattle.line_loop.specs.declared.halt.EndStop.{EndStop}
 
@@ -11,10 +12,6 @@ pub record Scene (P B M : Type 0) : Type 0 where
 
 abbrev pub scene : {P B M : Type 0} → P → B → M → Scene P B M
 scene part bench modems = record { part = part; bench = bench; modems = modems }
-
--- What lines and the text that is sent for them made of a scene.
-abbrev pub Walk : Type 1
-Walk = List (List ℕ) → List ℕ → Type 0
 
 -- What lines, their text and a further line made of a scene that stops at it.
 abbrev pub Stopping : Type 1

@@ -4,6 +4,7 @@ use Rattle.run_loop.specs.Edges.{Edge, HasCauses}
 use Rattle.run_loop.specs.Sends.{HasSent}
 use Rattle.run_loop.specs.declared.halt.SendStop.{SendStop}
 use Rattle.run_loop.specs.declared.halt.SendStop.TheVariants as sending
+use Rattle.run_loop.specs.Parts.{Walk}
 use Rattle.line_loop.specs.declared.reading.TheConstants.{MOST_LINES}
 use Rattle.line_loop.specs.declared.halt.NoLine.TheVariants as reading
 use Rattle.line_loop.specs.declared.halt.EndStop.{EndStop}
@@ -12,7 +13,7 @@ use Rattle.line_loop.specs.declared.halt.Halt.TheVariants.{Reading, Handling, En
 use Rattle.line_loop.specs.declared.halt.RunEnd.{RunEnd}
 use Rattle.line_loop.specs.Lines.{IsTaken, NoLineAt, HasTaken}
 use Rattle.line_loop.specs.Parts as parts
-use Rattle.line_loop.specs.Parts.{Walk, Stopping}
+use Rattle.line_loop.specs.Parts.{Stopping}
 use Rattle.line_loop.specs.Sends.{IsCutShort, SentBehind, Closed, stop_line}
 use Rattle.line_loop.specs.Status.{halt_status, has_stop_line}
 

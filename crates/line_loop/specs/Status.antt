@@ -3,7 +3,7 @@ use Rattle.std.specs.Prelude.{ℕ, Bool, true, false, Result, Ok, Err}
 use Rattle.iot_bytes.specs.declared.memory.ReadError.{ReadError}
 use Rattle.iot_bytes.specs.declared.memory.ReadError.TheVariants as read
 use Rattle.run_loop.specs.declared.halt.SendStop.{SendStop}
-use Rattle.run_loop.specs.declared.halt.SendStop.TheVariants as sending
+use Rattle.run_loop.specs.Status.{send_status}
 use Rattle.line_loop.specs.declared.halt.NoLine.{NoLine}
 use Rattle.line_loop.specs.declared.halt.NoLine.TheVariants as reading
 use Rattle.line_loop.specs.declared.halt.LineStop.{LineStop}
@@ -38,11 +38,6 @@ abbrev pub end_status : EndStop → ℕ
 end_status ending.Missing = 5
 end_status ending.NoMemory = 6
 
--- The status where the last text isn't sent whole.
-abbrev pub closing_status : SendStop → ℕ
-closing_status sending.Fault = 3
-closing_status sending.NoMemory = 6
-
 -- The status of each reason that no more lines are handled.
 abbrev pub halt_status : Halt → ℕ
 halt_status (Reading stop) = read_status stop
@@ -73,4 +68,4 @@ has_stop_line Sending = false
 -- The exit status: that of the reason, or of what went wrong with the last text.
 abbrev pub exit_status : Halt → Result (Unit {0}) SendStop → ℕ
 exit_status halt (Ok done) = halt_status halt
-exit_status halt (Err stop) = closing_status stop
+exit_status halt (Err stop) = send_status stop

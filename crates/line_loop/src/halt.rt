@@ -1,7 +1,7 @@
 //! Why a run over lines ends, and the exit status that says so.
 
 ghost use Rattle.std.specs.Prelude.{◌≡◌};
-ghost use Rattle.line_loop.specs.Status.{closing_status, exit_status, halt_status, has_stop_line};
+ghost use Rattle.line_loop.specs.Status.{exit_status, halt_status, has_stop_line};
 ghost use Rattle.line_loop.specs.Status.{end_status, is_end, line_status, read_status};
 
 use iot_bytes::{Failed, ReadError};
@@ -113,7 +113,7 @@ impl Halt {
             Halt::Reading(stop) => stop.status(),
             Halt::Handling(stop) => stop.status(),
             Halt::Ending(stop) => stop.status(),
-            Halt::Sending => 3,
+            Halt::Sending => SendStop::Fault.status(),
         }
     }
 
@@ -141,15 +141,6 @@ impl Halt {
     }
 }
 
-fn closing_status(stop: SendStop) -> u8
-    ensures { result ≡ closing_status stop }
-{
-    match stop {
-        SendStop::Fault => 3,
-        SendStop::NoMemory => 6,
-    }
-}
-
 impl RunEnd {
     /// The exit status of the run.
     pub fn status(self) -> u8
@@ -157,7 +148,7 @@ impl RunEnd {
     {
         match self.closing {
             Ok(()) => self.halt.status(),
-            Err(stop) => closing_status(stop),
+            Err(stop) => stop.status(),
         }
     }
 }

@@ -1,7 +1,8 @@
 //! What handles lines.
 
 ghost use Rattle.std.specs.Prelude.{[], OnOk};
-ghost use Rattle.line_loop.specs.Parts.{Scene, scene, Walk, Stopping, Ending, Handles, Finishes};
+ghost use Rattle.run_loop.specs.Parts.{Walk};
+ghost use Rattle.line_loop.specs.Parts.{Scene, scene, Stopping, Ending, Handles, Finishes};
 
 use crate::halt::{EndStop, LineStop};
 use iot_bytes::Row;

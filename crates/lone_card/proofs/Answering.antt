@@ -1,7 +1,6 @@
 -- What a card stands for after it answered a frame, or stopped at it, and what its chip holds.
-use Rattle.std.specs.Prelude.{option_map, IfOk}
-use Rattle.std.proofs.Common.{◌≡◌, ◌∙◌, ap, sym, subst, refl, inl, inr, ℕ, ◌+◌, ◌*◌, ◌≤◌, true, false, Bool, List, [], ◌∷◌, ◌++◌, length, length-append, Option, Some, None, Result, Ok, Err, arith}
-use Rattle.iot_bytes.specs.Causes.{Rose}
+use Rattle.std.specs.Prelude.{option_map}
+use Rattle.std.proofs.Common.{◌≡◌, ◌∙◌, ap, sym, subst, inl, inr, ℕ, ◌+◌, ◌*◌, true, false, Bool, List, [], ◌∷◌, ◌++◌, length, length-append, Option, Some, None, Result, Ok, Err, arith}
 use Rattle.iot_bytes.specs.Frames.{frame}
 use Rattle.chip_port.specs.Seen.{Seen, Tally}
 use Rattle.chip_port.specs.Rules.{IfTold}
@@ -17,11 +16,11 @@ use Rattle.card_store.specs.Holding.{Mark}
 use Rattle.card_store.specs.Looking.{HasCauseOf}
 use Rattle.run_loop.specs.declared.halt.PartStop.{PartStop}
 use Rattle.run_loop.specs.declared.halt.PartStop.TheVariants.{ChipFault, Malformed, Unrecognised, NoMemory}
-use Rattle.lone_card.specs.Cards.{started, reply_to, after_frame, history_of, sent_for, output}
-use Rattle.lone_card.specs.Marks.{unit_in, tried, opened, marks_after, marks_of}
-use Rattle.lone_card.specs.Answering.{StandsFor, Replied, IsBegun, BegunBy, AreAnswered}
-use Rattle.lone_card.specs.Benches.{HoldsFrom, Rests, IsTopped, GoesOn, BreaksOff, Works, Makes}
-use Rattle.lone_card.specs.Walks.{IsLater, ChipLed, IsLed, LedTo, ChipBroke, ChipRests, ChipStopped, IsStopped, StoppedAt}
+use Rattle.lone_card.specs.Cards.{reply_to, after_frame, history_of, sent_for, output}
+use Rattle.lone_card.specs.Marks.{unit_in, opened, marks_after, marks_of}
+use Rattle.lone_card.specs.Answering.{StandsFor, Replied, IsBegun, BegunBy}
+use Rattle.lone_card.specs.Benches.{Rests, GoesOn, BreaksOff, Works, Makes}
+use Rattle.lone_card.specs.Walks.{IsLater, ChipLed, LedTo, ChipBroke, ChipRests, ChipStopped, StoppedAt}
 use Rattle.lone_card.specs.Starting.{stands_rightful}
 use Rattle.lone_card.proofs.Histories.{history_of-push, output-push, begins-push}
 use Rattle.lone_card.proofs.Topping.{marks_from-push, marks_topped}

@@ -1,34 +1,22 @@
 -- What the calls of a card make of a chip that rests.
-use Rattle.std.proofs.Common.{◌≡◌, ◌⊎◌, ⊎_elim, inl, inr, ℕ, ◌+◌, ◌≤◌, true, false, List, [], ◌∷◌, length, Option, Some, None, refl, sym, subst, ap, ◌∙◌, arith}
+use Rattle.std.proofs.Common.{◌≡◌, inl, ℕ, ◌+◌, true, false, List, ◌∷◌, Option, Some, None, refl, sym, subst, ap, ◌∙◌}
 use Rattle.chip_port.specs.Seen.{Seen}
 use Rattle.chip_port.specs.Rules.{Sound, IfTold, Untouched}
-use Rattle.chip_port.specs.Runs.{Ran, Ended, Went, Smooth}
-use Rattle.chip_port.proofs.Runs.{ran_none, ran_most}
-use Rattle.small_card.specs.Cards.{FullCard}
+use Rattle.chip_port.specs.Runs.{Ran, Went}
 use Rattle.small_card.specs.Units.{CardUnit}
 use Rattle.small_card.specs.Histories.{History, full_of}
-use Rattle.small_card.specs.Prefixes.{first_units}
-use Rattle.small_card.proofs.Prefixes.{first_all}
 use Rattle.small_card.specs.declared.types.Command.{Command}
-use Rattle.small_card.specs.declared.types.Answer.{Answer}
 use Rattle.package_codec.specs.Replies.{unit_of, after}
 use Rattle.undo_journal.specs.Home.{is_open}
-use Rattle.card_store.specs.Standing.{Stands, IsSettled}
+use Rattle.card_store.specs.Standing.{Stands}
 use Rattle.card_store.specs.Looking.{Looks}
 use Rattle.card_store.specs.Holding.{Mark, Holds, IsHeld, StandsAt, standing}
 use Rattle.card_store.proofs.Holding.{loss_held}
-use Rattle.card_store.proofs.Looking.{untouched_looks, looks_most}
+use Rattle.card_store.proofs.Looking.{untouched_looks}
 use Rattle.euicc_core.specs.Answers.{Answers}
-use Rattle.euicc_core.specs.Steps.{EndsAt}
-use Rattle.euicc_core.specs.declared.ends.StepEnd.{StepEnd}
-use Rattle.euicc_core.specs.declared.ends.StepEnd.TheVariants as step
 use Rattle.euicc_core.proofs.Kept.{step_held, look_held, first_held}
-use Rattle.lone_card.specs.Marks.{tried, marked, opened}
+use Rattle.lone_card.specs.Marks.{tried, opened}
 use Rattle.lone_card.specs.Benches.{HoldsFrom, IsSettledOn, Rests, IsTopped, GoesOn, BreaksOff}
-
--- the calls of a run
-pub ran_calls : {P : List ℕ → Type 0} {s t : Seen} → Ran 10000 false P s t → Went 10000 false s.tally t.tally
-ran_calls r = r.went
 
 -- a look leaves the chip at rest
 looked_holds : (s t : Seen) (first : ℕ) (o : Option History) (marks : List Mark) → Looks 10000 s t → HoldsFrom s first o marks → HoldsFrom t first o marks

@@ -20,7 +20,7 @@ use Rattle.es10_codec.specs.Spelling.{stopped}
 use Rattle.small_card.specs.Cards.{FullCard}
 use Rattle.card_store.specs.Standing.{Stands}
 use Rattle.run_loop.specs.Sends.{Closes}
-use Rattle.run_loop.specs.Status.{part_status, halt_status, has_record, exit_status}
+use Rattle.run_loop.specs.Status.{part_status, has_record, exit_status}
 use Rattle.run_loop.proofs.Breaking.{IsForm}
 use Rattle.run_loop.proofs.Mapping.{status_two, status_three}
 use Rattle.run_loop.proofs.Stopping.{HasEnded, has_ended, complete as answered_whole, stops_torn, stops_limit, stops_unfit}
@@ -147,20 +147,6 @@ status_four (Answering answering.NoMemory) (Ok done) e = absurd cc
 status_four Sending (Ok done) e = absurd cc
 status_four halt (Err sending.Fault) e = absurd cc
 status_four halt (Err sending.NoMemory) e = absurd cc
-
-pub not_one : (halt : Halt) (closing : Result (Unit {0}) SendStop) → exit_status halt closing ≡ 1 → ⊥
-not_one (Reading reading.End) (Ok done) e = absurd cc
-not_one (Reading reading.Fault) (Ok done) e = absurd cc
-not_one (Reading reading.Torn) (Ok done) e = absurd cc
-not_one (Reading reading.Limit) (Ok done) e = absurd cc
-not_one (Reading reading.NoMemory) (Ok done) e = absurd cc
-not_one (Answering answering.ChipFault) (Ok done) e = absurd cc
-not_one (Answering answering.Malformed) (Ok done) e = absurd cc
-not_one (Answering answering.Unrecognised) (Ok done) e = absurd cc
-not_one (Answering answering.NoMemory) (Ok done) e = absurd cc
-not_one Sending (Ok done) e = absurd cc
-not_one halt (Err sending.Fault) e = absurd cc
-not_one halt (Err sending.NoMemory) e = absurd cc
 
 pub has_faults : (status : ℕ) (old new : Edge) (s t : Seen) → Served status old new s t → HasFaults s t (status ≡ 4)
 has_faults status old new s t served = record {

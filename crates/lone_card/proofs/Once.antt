@@ -13,9 +13,10 @@ use Rattle.result_codec.specs.Laws.{AreOctets}
 use Rattle.es10_codec.specs.Reading.{command_at}
 use Rattle.es10_codec.proofs.CommandCodec.{command_codec}
 use Rattle.small_card.specs.Fresh.{fresh}
+use Rattle.small_card.proofs.Validity.{alone_legal}
 use Rattle.lone_card.specs.Cards.{started, after_command, after_frame, history_of}
 use Rattle.small_card.proofs.Fresh.{fresh_valid}
-use Rattle.lone_card.proofs.Replying.{fresh_legal, values}
+use Rattle.lone_card.proofs.Replying.{values}
 
 in_range : (f : List ℕ) (c : Command) → AreOctets f → command_at f ≡ Some c → IsCommand c
 in_range f c octets e = (command_codec.takes f c (bounds_from_AllPass f octets) e).1.range
@@ -30,7 +31,7 @@ start_legal (Some (command.Personalise eid ps)) h e range =
     let v = values eid ps (range (command.Personalise eid ps) refl) in
     let made : History = record { start = fresh eid ps; units = [] } in
     let same : made ≡ h = cc in
-    subst IsLegal same (fresh_legal (fresh eid ps) (fresh_valid eid ps v.0 v.1))
+    subst IsLegal same (alone_legal (fresh eid ps) (fresh_valid eid ps v.0 v.1))
 start_legal (Some (command.Load good bytes)) h e range = absurd cc
 start_legal (Some command.Rollback) h e range = absurd cc
 start_legal (Some (command.Remove seq)) h e range = absurd cc

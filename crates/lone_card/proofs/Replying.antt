@@ -1,43 +1,34 @@
 -- A frame that is a command, one that is none, and one that makes a card.
-use Rattle.std.proofs.Common.{◌≡◌, ◌∙◌, ap, sym, subst, refl, ℕ, List, [], ◌∷◌, true, false, Option, Some, None, Result, Ok, Err}
+use Rattle.std.proofs.Common.{◌≡◌, ◌∙◌, ap, sym, subst, refl, ℕ, List, [], ◌∷◌, true, Option, Some, None, Ok}
 use Rattle.std.specs.Prelude.{IfOk}
 use Rattle.chip_port.specs.Seen.{Seen}
-use Rattle.chip_port.specs.Rules.{Sound, IfTold}
-use Rattle.iot_bytes.specs.Causes.{Rose}
+use Rattle.chip_port.specs.Rules.{Sound}
 use Rattle.sgp_values.specs.Eids.{IsEid}
 use Rattle.small_card.specs.Cards.{FullCard}
 use Rattle.small_card.specs.Fresh.{fresh}
 use Rattle.small_card.specs.Histories.{History, full_of}
-use Rattle.small_card.specs.Legal.{IsLegal, IsLegalFrom}
+use Rattle.small_card.specs.Legal.{IsLegal}
 use Rattle.small_card.specs.Ranges.{IsTable, IsCommand, IsAnswer}
-use Rattle.small_card.specs.Valid.{IsValid}
 use Rattle.small_card.specs.declared.types.Answer.{Answer}
 use Rattle.small_card.specs.declared.types.Answer.TheVariants.{Malformed}
 use Rattle.small_card.specs.declared.types.Command.{Command}
 use Rattle.small_card.specs.declared.types.Command.TheVariants.{Personalise}
 use Rattle.small_card.specs.declared.types.Profile.{Profile}
 use Rattle.small_card.proofs.Fresh.{fresh_valid}
-use Rattle.small_card.proofs.Validity.{full_start}
-use Rattle.package_codec.specs.Replies.{reply, unit_of, after}
+use Rattle.small_card.proofs.Validity.{full_start, alone_legal}
+use Rattle.package_codec.specs.Replies.{unit_of, after}
 use Rattle.es10_codec.specs.Reading.{command_at}
-use Rattle.card_store.specs.Holding.{Mark, standing}
+use Rattle.card_store.specs.Holding.{standing}
 use Rattle.card_store.specs.Looking.{HasCauseOf}
-use Rattle.card_store.specs.Standing.{IsSettled}
-use Rattle.euicc_core.specs.Steps.{IsLitOn, IsReply, Steps, HasCauseOfStep, ChipSteps, IsInRange}
-use Rattle.euicc_core.specs.Openings.{Personalises}
+use Rattle.euicc_core.specs.Steps.{IsReply, Steps, HasCauseOfStep, ChipSteps, IsInRange}
 use Rattle.euicc_core.specs.declared.ends.StepEnd.{StepEnd}
 use Rattle.euicc_core.specs.declared.ends.StepEnd.TheVariants as step
-use Rattle.run_loop.specs.declared.halt.PartStop.{PartStop}
 use Rattle.run_loop.specs.declared.halt.PartStop.TheVariants as stop
-use Rattle.lone_card.specs.Cards.{started, reply_of, after_command, reply_to, after_frame}
-use Rattle.lone_card.specs.Marks.{unit_by, unit_in, tried, marked, marks_after, opened}
+use Rattle.lone_card.specs.Cards.{reply_of, after_command, reply_to, after_frame}
+use Rattle.lone_card.specs.Marks.{unit_by, unit_in, tried, marked, marks_after}
 use Rattle.lone_card.specs.Answering.{StandsFor, Replied, IsBegun, of_step}
-use Rattle.lone_card.specs.Benches.{GoesOn, BreaksOff, Works, Makes, IsReady}
+use Rattle.lone_card.specs.Benches.{GoesOn, BreaksOff, Works, IsReady}
 use Rattle.lone_card.proofs.Chips.{looked, answered, lost}
-
-pub fresh_legal : (f : FullCard) → IsValid f → IsLegal (record { start = f; units = [] })
-unfolding IsLegal IsLegalFrom
-fresh_legal f v = v
 
 pub values : (eid : List ℕ) (ps : List Profile) → IsCommand (Personalise eid ps) → IsEid eid × IsTable ps
 unfolding IsCommand
@@ -58,7 +49,7 @@ begun eid ps held fits is =
       history = begun_history eid ps;
       starts = refl;
       holds = is ∙ ap (λ (f : FullCard). Some f) (sym (full_start (fresh eid ps)));
-      legal = fresh_legal (fresh eid ps) (fresh_valid eid ps v.0 v.1);
+      legal = alone_legal (fresh eid ps) (fresh_valid eid ps v.0 v.1);
     }
 
 -- a frame that spells a command has its reply, and the card of the history after it

@@ -1,7 +1,6 @@
 -- A run of the card, from its opening to its end.
-use Rattle.std.proofs.Common.{◌≡◌, ◌⊎◌, ◌∙◌, ap, sym, subst, refl, inl, inr, ℕ, ◌+◌, ◌*◌, ◌≤◌, true, false, Bool, List, [], ◌∷◌, ◌++◌, length, Option, Some, None, Result, Ok, Err, arith}
+use Rattle.std.proofs.Common.{◌≡◌, ◌⊎◌, ◌∙◌, ap, sym, subst, refl, inl, inr, ℕ, ◌+◌, ◌*◌, true, false, Bool, List, [], ◌∷◌, ◌++◌, length, Option, Some, None, Ok, Err, arith}
 use Rattle.std.specs.Prelude.{MatchOption}
-use Rattle.iot_bytes.specs.Causes.{Rose}
 use Rattle.chip_port.specs.Seen.{Seen, Tally}
 use Rattle.chip_port.specs.Rules.{IfTold, Sound}
 use Rattle.chip_port.specs.Runs.{Went}
@@ -9,14 +8,12 @@ use Rattle.chip_port.proofs.Runs.{went_then}
 use Rattle.small_card.specs.Cards.{FullCard}
 use Rattle.small_card.specs.Valid.{IsValid}
 use Rattle.small_card.specs.Histories.{History, full_of}
-use Rattle.small_card.proofs.Validity.{full_start}
+use Rattle.small_card.proofs.Validity.{full_start, alone_legal}
 use Rattle.card_store.specs.Looking.{HasCauseOf}
 use Rattle.card_store.specs.Standing.{Stands}
 use Rattle.euicc_core.specs.Answers.{Answers}
 use Rattle.euicc_core.specs.Steps.{IsLitOn}
-use Rattle.euicc_core.specs.Openings.{IsOpened, Opens as CardOpens}
-use Rattle.euicc_core.specs.declared.ends.OpenError.{OpenError}
-use Rattle.euicc_core.specs.declared.ends.OpenError.TheVariants as open_end
+use Rattle.euicc_core.specs.Openings.{IsOpened}
 use Rattle.run_loop.specs.declared.halt.PartStop.{PartStop}
 use Rattle.run_loop.specs.declared.halt.PartStop.TheVariants.{ChipFault, Malformed, Unrecognised, NoMemory}
 use Rattle.run_loop.specs.declared.halt.Halt.{Halt}
@@ -27,12 +24,10 @@ use Rattle.run_loop.specs.Runs.{Ended, Reason, IsUnopened}
 use Rattle.run_loop.proofs.Mapping.{ended_map}
 use Rattle.lone_card.specs.Cards.{history_of}
 use Rattle.lone_card.specs.Marks.{opened, marks_from}
-use Rattle.lone_card.specs.Answering.{StandsFor, AreAnswered}
-use Rattle.lone_card.specs.Benches.{Rests, IsReady, IsLitPart}
-use Rattle.lone_card.specs.Walks.{IsLater, ChipLed, IsLed, LedTo, ChipBroke, ChipRests, ChipStopped, IsStopped, StoppedAt}
-use Rattle.lone_card.specs.Runs.{IsStart, IsLit, IsCutOff, AreKept, StopsOver, StopsAt, StaysShut, NeverOpened, HasServed, HasFaults, Ran, IsOpen, HasOpened, Opens}
+use Rattle.lone_card.specs.Answering.{StandsFor}
+use Rattle.lone_card.specs.Walks.{IsLater, IsLed, LedTo, ChipRests, ChipStopped, IsStopped, StoppedAt}
+use Rattle.lone_card.specs.Runs.{IsLit, AreKept, StopsOver, StopsAt, StaysShut, HasFaults, Ran, IsOpen, HasOpened, Opens}
 use Rattle.lone_card.specs.declared.card.CardPart.{CardPart}
-use Rattle.lone_card.proofs.Replying.{fresh_legal}
 use Rattle.lone_card.proofs.Chips.{first_rests}
 
 -- the calls of an opening and of what follows
@@ -117,9 +112,9 @@ powered f s t before now valid opens told lit =
     let full = full_start f in
     record {
       start = Some h;
-      begins = (refl, fresh_legal f valid, λ is. stood f s t (opens is));
-      stands = (ap (λ (g : FullCard). Some g) (sym full), fresh_legal f valid);
-      ready = record { there = (Some h, (ap (λ (g : FullCard). Some g) (sym full), fresh_legal f valid)); settled = lit };
+      begins = (refl, alone_legal f valid, λ is. stood f s t (opens is));
+      stands = (ap (λ (g : FullCard). Some g) (sym full), alone_legal f valid);
+      ready = record { there = (Some h, (ap (λ (g : FullCard). Some g) (sym full), alone_legal f valid)); settled = lit };
       chip = λ is. open_at f s t (before is) (now (told ∙ is)) (opens is);
     }
   where
@@ -140,17 +135,4 @@ opened_by failed None part s t before now is valid cause opens lit = absurd vali
 opened_by failed (Some f) part s t before now is valid cause opens lit = record {
   chip = record { told = cause.told; monotone = cause.monotone; cause = λ at. absurd cc };
   to = subst (λ (c : Option (Option FullCard)). HasOpened c s t) (sym is) (powered f s t before now valid opens cause.told lit);
-}
-
--- a chip that stands for no card
-pub blank : (s t : Seen) → IfTold s (CardOpens (Err open_end.Unrecognised) s t) → HasOpened None s t
-blank s t opens = record {
-  start = None;
-  begins = λ told. (opens told).1;
-  stands = tt;
-  ready = record { there = (None, tt); settled = λ told. tt };
-  chip = λ told. let shut = (opens told).0 in record {
-    calls = shut.ran.went;
-    rests = record { holds = ap (λ m. m.answers + 1) shut.ran.marks; settled = tt };
-  };
 }

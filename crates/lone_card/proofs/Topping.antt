@@ -1,10 +1,10 @@
 -- The last mark is that of the history as it stands.
-use Rattle.std.proofs.Common.{◌≡◌, List, [], ◌∷◌, ◌++◌, ℕ, Option, Some, None, refl, ap, sym, subst, ◌∙◌}
+use Rattle.std.proofs.Common.{◌≡◌, List, [], ◌∷◌, ◌++◌, ℕ, Option, Some, None, refl}
 use Rattle.small_card.specs.Histories.{History}
 use Rattle.small_card.specs.declared.types.Command.{Command}
 use Rattle.es10_codec.specs.Reading.{command_at}
-use Rattle.package_codec.specs.Replies.{unit_of, after}
-use Rattle.card_store.specs.Holding.{Mark, standing}
+use Rattle.package_codec.specs.Replies.{unit_of}
+use Rattle.card_store.specs.Holding.{Mark}
 use Rattle.lone_card.specs.Cards.{started, after_command, after_frame, history_of}
 use Rattle.lone_card.specs.Marks.{tried, marked, opened, marks_after, marks_from}
 use Rattle.lone_card.specs.Benches.{IsTopped}

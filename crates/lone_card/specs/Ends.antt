@@ -1,7 +1,6 @@
 -- Inputs that are answered to their end, and inputs that stop.
 use Rattle.std.specs.Prelude.{◌≡◌, ◌⊎◌, ℕ, ◌≤◌, true, List, [], length, None}
 use Rattle.std.specs.List.{AllByRecursion}
-use Rattle.iot_bytes.specs.Causes.{Rose}
 use Rattle.iot_bytes.specs.Frames.{IsTorn}
 use Rattle.chip_port.specs.Seen.{Seen}
 use Rattle.small_card.specs.Cards.{FullCard}

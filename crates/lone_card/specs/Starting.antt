@@ -1,5 +1,5 @@
 -- Before its first frame a card stands for what it stood for, and its chip rests.
-use Rattle.std.proofs.Common.{[], true, Option, Some, None, refl, arith}
+use Rattle.std.proofs.Common.{[], Option, Some, None, refl, arith}
 use Rattle.chip_port.specs.Seen.{Seen}
 use Rattle.chip_port.specs.Runs.{Went}
 use Rattle.chip_port.proofs.Runs.{smooth_none}

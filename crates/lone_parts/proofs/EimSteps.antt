@@ -92,10 +92,6 @@ stopped first now f stop q did fs text led = λ e stands.
     let was = led e stands in
     record { folded = was.answered; reason = did was.answered.state was.stands }
 
--- there was no memory for the octets
-pub unwritten : (first now : Queue) (f : List ℕ) (fs : List (List ℕ)) (text : List ℕ) → LedTo first now fs text → StoppedAt first fs text f NoMemory
-unwritten first now f fs text led = λ e stands. record { folded = (led e stands).answered; reason = tt }
-
 -- every way of it
 pub bound_fits : (end : BindEnd) → IsEimOutput (of_bind end)
 unfolding IsEimOutput

@@ -1,18 +1,11 @@
 -- A run of one part, by its status.
 use Rattle.std.specs.Prelude.{◌⊎◌}
-use Rattle.std.proofs.Common.{◌≡◌, ◌∙◌, ℕ, ◌<◌, List, [], ◌∷◌, ◌++◌, length, Some, None, Result, Ok, Err, refl, sym, ap, inl, inr, arith}
+use Rattle.std.proofs.Common.{◌≡◌, ◌∙◌, ℕ, ◌<◌, List, [], ◌∷◌, ◌++◌, length, Some, None, refl, sym, ap, inl, inr, arith}
 use Rattle.std.specs.List.{AllByRecursion}
 use Rattle.iot_bytes.specs.Causes.{Rose}
-use Rattle.iot_bytes.specs.Frames.{frame}
 use Rattle.sgp_der.proofs.Fields.{on_some}
-use Rattle.sgp_fields.proofs.Steps.{some_is}
-use Rattle.run_loop.specs.declared.halt.ReadStop.TheVariants as reading
 use Rattle.run_loop.specs.declared.halt.PartStop.{PartStop}
 use Rattle.run_loop.specs.declared.halt.PartStop.TheVariants as answering
-use Rattle.run_loop.specs.declared.halt.SendStop.{SendStop}
-use Rattle.run_loop.specs.declared.halt.SendStop.TheVariants as sending
-use Rattle.run_loop.specs.declared.halt.Halt.{Halt}
-use Rattle.run_loop.specs.declared.halt.Halt.TheVariants.{Reading, Answering, Sending}
 use Rattle.run_loop.specs.declared.halt.RunEnd.{RunEnd}
 use Rattle.run_loop.specs.declared.reading.TheConstants.{MOST_FRAMES}
 use Rattle.run_loop.specs.Edges.{Edge, HasCauses}
@@ -23,6 +16,7 @@ use Rattle.run_loop.specs.Status.{part_status, exit_status}
 use Rattle.run_loop.proofs.Breaking.{IsForm}
 use Rattle.run_loop.proofs.Mapping.{ended_map, status_two, status_three}
 use Rattle.run_loop.proofs.Stopping.{HasEnded, has_ended, complete as answered_whole, stops_torn, stops_limit, stops_unfit}
+use Rattle.std.proofs.lemmas.Option.{same_Some}
 use Rattle.lone_parts.specs.Folds.{Rule, fold, AreFolded, StopsAt}
 use Rattle.lone_parts.specs.Runs.{Ran, AreHandled, IsOutside, StopsWith}
 
@@ -49,7 +43,7 @@ has_causes rule s status old new r =
 answers_on : {S : Type 0} (rule : Rule S) (s : S) (gs : List (List ℕ)) (f : List ℕ) (ms : List (List ℕ)) (state : S) (text : List ℕ) (all : S × List ℕ) → fold rule s gs ≡ Some (state, text) → fold rule s (gs ++ f ∷ ms) ≡ Some all → rule state f ≡ None → ⊥
 unfolding fold
 answers_on {S} rule s [] f ms state text all here there none =
-    let same : s ≡ state = ap (λ (p : S × List ℕ). p.0) (some_is _ _ here) in
+    let same : s ≡ state = ap (λ (p : S × List ℕ). p.0) (same_Some _ _ here) in
     let unknown : rule s f ≡ None = ap (λ (z : S). rule z f) same ∙ none in
     on_some (rule s f) _ all there (λ turn at rest. let two : Some turn ≡ None = sym at ∙ unknown in absurd cc)
 answers_on {S} rule s (g ∷ gs) f ms state text all here there none =
@@ -57,8 +51,8 @@ answers_on {S} rule s (g ∷ gs) f ms state text all here there none =
     on_some (fold rule turn.0 gs) _ (state, text) rest (λ others folds made.
     on_some (rule s g) _ all there (λ turn' at' rest'.
     on_some (fold rule turn'.0 (gs ++ f ∷ ms)) _ all rest' (λ others' folds' made'.
-    let turns : turn' ≡ turn = some_is _ _ (sym at' ∙ at) in
-    let reached : others.0 ≡ state = ap (λ (p : S × List ℕ). p.0) (some_is _ _ made) in
+    let turns : turn' ≡ turn = same_Some _ _ (sym at' ∙ at) in
+    let reached : others.0 ≡ state = ap (λ (p : S × List ℕ). p.0) (same_Some _ _ made) in
     let over : fold rule turn.0 (gs ++ f ∷ ms) ≡ Some others' = ap (λ (t : S × List ℕ). fold rule t.0 (gs ++ f ∷ ms)) (sym turns) ∙ folds' in
     answers_on rule turn.0 gs f ms others.0 others.1 others' folds over (ap (λ (z : S). rule z f) reached ∙ none)))))
 
@@ -103,18 +97,3 @@ stops rule s status old new input fs tail r told is handled no_read no_write =
       limit = stops_limit 5 (AreHandled rule s) (IsOutside rule s) (form rule s) status input fs tail e is handled;
       outside = stops_unfit 5 (AreHandled rule s) (IsOutside rule s) (form rule s) status input fs tail e is handled;
     }
-
--- no end has status 1
-pub not_one : (halt : Halt) (closing : Result (Unit {0}) SendStop) → exit_status halt closing ≡ 1 → ⊥
-not_one (Reading reading.End) (Ok done) e = absurd cc
-not_one (Reading reading.Fault) (Ok done) e = absurd cc
-not_one (Reading reading.Torn) (Ok done) e = absurd cc
-not_one (Reading reading.Limit) (Ok done) e = absurd cc
-not_one (Reading reading.NoMemory) (Ok done) e = absurd cc
-not_one (Answering answering.ChipFault) (Ok done) e = absurd cc
-not_one (Answering answering.Malformed) (Ok done) e = absurd cc
-not_one (Answering answering.NoMemory) (Ok done) e = absurd cc
-not_one (Answering answering.Unrecognised) (Ok done) e = absurd cc
-not_one Sending (Ok done) e = absurd cc
-not_one halt (Err sending.Fault) e = absurd cc
-not_one halt (Err sending.NoMemory) e = absurd cc

@@ -229,10 +229,6 @@ stopped first now f stop ipa did fs text led = λ events stands.
     let was = led.1 events stands in
     record { folded = was.answered; reason = subst (λ (eid : List ℕ). Replied eid was.answered.state f ipa (Err stop)) led.0 (did was.answered.state was.stands) }
 
--- there was no memory for the octets
-pub unwritten : (first now : Alone) (f : List ℕ) (fs : List (List ℕ)) (text : List ℕ) → LedTo first now fs text → StoppedAt first fs text f NoMemory
-unwritten first now f fs text led = λ events stands. record { folded = (led.1 events stands).answered; reason = tt }
-
 pub did_message : (events : List IpaEvent) (eid from : List ℕ) (good : Bool) (m : ToIpa) (ipa : Ipa) (a : Act) → a ≡ act_of events (message from m good) → IsIpa ipa (message from m good ∷ events) → Did events (event_of eid (ipa_in.Message from good m)) ipa a
 unfolding event_of
 did_message events eid from good m ipa a is stands = record { act_is = is; stands = stands }
@@ -262,7 +258,3 @@ pub did_poll : (events : List IpaEvent) (eid id : List ℕ) (ipa : Ipa) (r : Res
 unfolding event_of
 did_poll events eid id ipa (Ok a) did = did
 did_poll events eid id ipa (Err stop) did = tt
-
--- why a frame has no answer
-pub not_replied : (eid : List ℕ) (events : List IpaEvent) (f : List ℕ) (ipa : Ipa) (stop : PartStop) → stop ≡ NoMemory → Replied eid events f ipa (Err stop)
-not_replied eid events f ipa stop is = subst (λ (s : PartStop). Replied eid events f ipa (Err s)) (sym is) tt

@@ -1,5 +1,5 @@
 -- One more modem of a list is told, and one is taken out.
-use Rattle.std.proofs.Common.{◌≡◌, ℕ, ◌+◌, ◌<◌, Bool, true, map, length, take, drop, ◌++◌, List, [], ◌∷◌, Option, Some, refl, zero, suc, arith, ap, ◌∙◌, get_or, set, slice_get, add-one}
+use Rattle.std.proofs.Common.{◌≡◌, ℕ, ◌+◌, ◌<◌, Bool, true, map, length, take, drop, ◌++◌, List, [], ◌∷◌, Option, Some, refl, zero, suc, arith, ap, sym, subst, ◌∙◌, get_or, set, slice_get, add-one}
 use Rattle.modem_bank.specs.Modems.{told_one, is_shown, Seen, KeepsShowing}
 
 map-without-suc : {A B : Type 0} (f : A → B) (at : ℕ) (xs : List A) → map f (take at xs ++ drop (suc at) xs) ≡ take at (map f xs) ++ drop (suc at) (map f xs)
@@ -37,3 +37,10 @@ kept-set is (suc i) (suc place) (z ∷ ys) o y modem at same shows found = kept-
 pub kept-more : {M : Type 0} (shown : M → Option (List ℕ)) (now : Option (List ℕ)) (i : ℕ) (xs ys : List M) (o y : M) → o ≡ get_or ys i o → (is_shown (shown o) now ≡ true → y ≡ o) → KeepsShowing shown now xs ys → KeepsShowing shown now xs (set ys i y)
 kept-more shown now i xs ys o y at same kept place modem found shows =
     kept-set (λ m. is_shown (shown m) now) i place ys o y modem at same shows (kept place modem found shows)
+
+-- a modem in a box is told as the modem that the box has
+pub boxed-told : {Q : Type 0} (shown : Q → Option (List ℕ)) (count : Q → ℕ) (now : Option (List ℕ)) (old within new : Q) → (shown new, count new) ≡ told_one now (shown within, count within) → within ≡ old → (shown new, count new) ≡ told_one now (shown old, count old)
+boxed-told shown count now old within new told same = told ∙ ap (λ q. told_one now (shown q, count q)) same
+
+pub boxed-kept : {Q Box : Type 0} (shown : Q → Option (List ℕ)) (now : Option (List ℕ)) (box : Q → Box) (old within new : Q) → (is_shown (shown within) now ≡ true → new ≡ within) → within ≡ old → is_shown (shown old) now ≡ true → box new ≡ box old
+boxed-kept shown now box old within new kept same shows = ap box (kept (subst (λ q. is_shown (shown q) now ≡ true) (sym same) shows) ∙ same)

@@ -3,18 +3,18 @@ use Rattle.std.proofs.Common.{◌≡◌, ℕ, ◌≤◌, List, length, Some, ref
 use Rattle.std.specs.List.{flat_map}
 use Rattle.sgp_der.specs.Element.{element}
 use Rattle.sgp_der.proofs.Fields.{on_some}
-use Rattle.sgp_der.proofs.Lengths.{IsBytes}
 use Rattle.sgp_fields.specs.Lists.{list_at, some_of}
 use Rattle.sgp_fields.proofs.Codecs.{IsCodec, IsListed, IsSpelled, IsTaken}
 use Rattle.sgp_fields.proofs.Elements.{on_tag, whole_codec}
 use Rattle.sgp_fields.proofs.ListCodec.{list_codec, some_takes, some_again}
 use Rattle.sgp_fields.proofs.Sizes.{long, flat_few}
-use Rattle.sgp_fields.proofs.Steps.{some_is}
 use Rattle.small_card.specs.Ranges.{IsBody, IsPsmo, IsEco}
 use Rattle.small_card.specs.declared.types.Psmo.{Psmo}
 use Rattle.small_card.specs.declared.types.Eco.{Eco}
 use Rattle.small_card.specs.declared.types.Body.{Body}
 use Rattle.small_card.specs.declared.types.Body.TheVariants.{Psmos, Ecos}
+use Rattle.std.proofs.lemmas.Option.{same_Some}
+use Rattle.iot_bytes.proofs.Framing.{IsBytes}
 use Rattle.package_codec.specs.Spelling.{psmo, eco, body}
 use Rattle.package_codec.specs.Reading.{psmo_of, eco_of, psmos_of, ecos_of, body_of, body_at}
 use Rattle.package_codec.proofs.Psmos.{psmo_listed, psmo_few}
@@ -27,7 +27,7 @@ psmos_taken content b fits e =
     on_some (some_of ops) _ b e1 (λ some there e2.
     let t = (list_codec psmo_listed 8).takes content ops fits read in
     let s = some_takes ops some there in
-    let same : Psmos ops ≡ b = ap (λ (xs : List Psmo). Psmos xs) s.0 ∙ some_is _ _ e2 in
+    let same : Psmos ops ≡ b = ap (λ (xs : List Psmo). Psmos xs) s.0 ∙ same_Some _ _ e2 in
     subst (IsTaken body IsBody 0xa4 content) same (record { octets = ap (element 0xa4) t.0; fits = (record { some = s.1; few = t.1.few }, t.1.each) })))
 
 ecos_taken : (content : List ℕ) (b : Body) → IsBytes content → ecos_of content ≡ Some b → IsTaken body IsBody 0xa5 content b
@@ -37,7 +37,7 @@ ecos_taken content b fits e =
     on_some (some_of ops) _ b e1 (λ some there e2.
     let t = (list_codec eco_listed 8).takes content ops fits read in
     let s = some_takes ops some there in
-    let same : Ecos ops ≡ b = ap (λ (xs : List Eco). Ecos xs) s.0 ∙ some_is _ _ e2 in
+    let same : Ecos ops ≡ b = ap (λ (xs : List Eco). Ecos xs) s.0 ∙ same_Some _ _ e2 in
     subst (IsTaken body IsBody 0xa5 content) same (record { octets = ap (element 0xa5) t.0; fits = (record { some = s.1; few = t.1.few }, t.1.each) })))
 
 body_taken : (tag : ℕ) (content : List ℕ) (b : Body) → IsBytes content → body_of tag content ≡ Some b → IsTaken body IsBody tag content b

@@ -5,7 +5,6 @@ use Rattle.sgp_der.specs.Element.{element}
 use Rattle.sgp_der.specs.Fields.{field_at}
 use Rattle.sgp_der.proofs.Elements.{element_few}
 use Rattle.sgp_der.proofs.Fields.{on_some}
-use Rattle.sgp_der.proofs.Lengths.{IsBytes}
 use Rattle.sgp_fields.specs.Config.{config_content, config_of}
 use Rattle.sgp_fields.specs.Fields.{octets, optional}
 use Rattle.sgp_fields.specs.declared.config.EimConfig.{EimConfig}
@@ -13,12 +12,14 @@ use Rattle.sgp_fields.proofs.Codecs.{IsListed, IsSpelled, IsTaken}
 use Rattle.sgp_fields.proofs.ConfigCodec.{config_codec, config_few}
 use Rattle.sgp_fields.proofs.Elements.{on_tag}
 use Rattle.sgp_fields.proofs.Sizes.{middle, long}
-use Rattle.sgp_fields.proofs.Steps.{some_is, on_value, on_last, on_optional, on_end, value_again, last_again, optional_again, no_field_left, no_field_other}
+use Rattle.sgp_fields.proofs.Steps.{on_value, on_last, on_optional, on_end, value_again, last_again, optional_again, no_field_left, no_field_other}
 use Rattle.sgp_fields.proofs.ValueCodecs.{eim_id_codec, address_codec, key_codec}
 use Rattle.sgp_values.specs.Ranges.{IsEimId, IsAddress, IsKey}
 use Rattle.small_card.specs.Ranges.{IsEco}
 use Rattle.small_card.specs.declared.types.Eco.{Eco}
 use Rattle.small_card.specs.declared.types.Eco.TheVariants as eco_op
+use Rattle.std.proofs.lemmas.Option.{same_Some}
+use Rattle.iot_bytes.proofs.Framing.{IsBytes}
 use Rattle.package_codec.specs.Spelling.{id_content, update_content, eco}
 use Rattle.package_codec.specs.Reading.{add_of, update_of, drop_of, list_eims_of, eco_of}
 
@@ -27,7 +28,7 @@ unfolding add_of eco IsEco
 add_taken content op fits e =
     on_some (config_of content) _ op e (λ c read e1.
     let t = config_codec.takes content c fits read in
-    subst (IsTaken eco IsEco 0xa8 content) (some_is _ _ e1) (record { octets = ap (element 0xa8) t.0; fits = (t.1.id, t.1.address, t.1.key) }))
+    subst (IsTaken eco IsEco 0xa8 content) (same_Some _ _ e1) (record { octets = ap (element 0xa8) t.0; fits = (t.1.id, t.1.address, t.1.key) }))
 
 update_taken : (content : List ℕ) (op : Eco) → IsBytes content → update_of content ≡ Some op → IsTaken eco IsEco 0xa9 content op
 unfolding update_of update_content eco IsEco
@@ -39,19 +40,19 @@ update_taken content op fits e =
     let last : left ≡ optional octets 0x82 key = l.parts ∙ rw end (append-nil _) in
     let whole : content ≡ element 0x80 id ++ (optional octets 0x81 address ++ optional octets 0x82 key) = v.parts ∙ ap (λ (r : List ℕ). element 0x80 id ++ r) (w.parts ∙ ap (λ (r : List ℕ). optional octets 0x81 address ++ r) last) in
     let grouped : content ≡ element 0x80 id ++ optional octets 0x81 address ++ optional octets 0x82 key = whole ∙ sym (append_assoc (element 0x80 id) (optional octets 0x81 address) (optional octets 0x82 key)) in
-    subst (IsTaken eco IsEco 0xa9 content) (some_is _ _ e4) (record { octets = ap (element 0xa9) grouped; fits = (v.fits, w.fits, l.fits) })))))
+    subst (IsTaken eco IsEco 0xa9 content) (same_Some _ _ e4) (record { octets = ap (element 0xa9) grouped; fits = (v.fits, w.fits, l.fits) })))))
 
 drop_taken : (content : List ℕ) (op : Eco) → IsBytes content → drop_of content ≡ Some op → IsTaken eco IsEco 0xaa content op
 unfolding drop_of id_content eco IsEco
 drop_taken content op fits e =
     on_last eim_id_codec 0x80 content _ op fits e (λ id l e1.
-    subst (IsTaken eco IsEco 0xaa content) (some_is _ _ e1) (record { octets = ap (element 0xaa) l.octets; fits = l.fits }))
+    subst (IsTaken eco IsEco 0xaa content) (same_Some _ _ e1) (record { octets = ap (element 0xaa) l.octets; fits = l.fits }))
 
 list_taken : (content : List ℕ) (op : Eco) → list_eims_of content ≡ Some op → IsTaken eco IsEco 0x8b content op
 unfolding list_eims_of eco IsEco
 list_taken content op e =
     on_end content _ op e (λ end e1.
-    subst (IsTaken eco IsEco 0x8b content) (some_is _ _ e1) (record { octets = ap (element 0x8b) end; fits = tt }))
+    subst (IsTaken eco IsEco 0x8b content) (same_Some _ _ e1) (record { octets = ap (element 0x8b) end; fits = tt }))
 
 eco_taken : (tag : ℕ) (content : List ℕ) (op : Eco) → IsBytes content → eco_of tag content ≡ Some op → IsTaken eco IsEco tag content op
 unfolding eco_of

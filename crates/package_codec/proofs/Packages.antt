@@ -5,18 +5,19 @@ use Rattle.std.proofs.lemmas.Bool.{leb-true, le-leb}
 use Rattle.sgp_der.specs.Element.{element}
 use Rattle.sgp_der.specs.Number.{uint}
 use Rattle.sgp_der.proofs.Fields.{on_some, field_again, only_again}
-use Rattle.sgp_der.proofs.Lengths.{IsBytes}
 use Rattle.sgp_values.proofs.Octets.{AllPass-from_bounds}
 use Rattle.sgp_fields.specs.Laws.{OneSpelling}
 use Rattle.sgp_fields.proofs.Codecs.{IsCodec}
 use Rattle.sgp_fields.proofs.Elements.{record_codec, record_listed, one_spelling}
 use Rattle.sgp_fields.proofs.Numbers.{card_number_codec, counter_codec}
 use Rattle.sgp_fields.proofs.Sizes.{short, middle, long, number_few, counter_few}
-use Rattle.sgp_fields.proofs.Steps.{some_is, on_value, on_only, on_field, on_test, value_again, only_if_again}
+use Rattle.sgp_fields.proofs.Steps.{on_value, on_only, on_field, on_test, value_again, only_if_again}
 use Rattle.sgp_fields.proofs.ValueCodecs.{eim_id_codec, eid_codec}
 use Rattle.small_card.specs.Ranges.{IsPackage, IsSigned}
 use Rattle.small_card.specs.declared.types.Package.{Package}
 use Rattle.small_card.specs.declared.types.Signed.{Signed}
+use Rattle.std.proofs.lemmas.Option.{same_Some}
+use Rattle.iot_bytes.proofs.Framing.{IsBytes}
 use Rattle.package_codec.specs.Spelling.{body, package_fields, inner_package, signed_content, signed}
 use Rattle.package_codec.specs.Reading.{body_at, package_of, signed_of, signed_at}
 use Rattle.package_codec.proofs.Bodies.{body_codec, body_few}
@@ -40,7 +41,7 @@ package_takes content p fits e =
     let whole : content ≡ element 0x80 eim ++ (element 0x81 eid ++ (element 0x82 (uint association) ++ (element 0x83 (uint counter) ++ body operations))) =
     v.parts ∙ followed _ _ _ (w.parts ∙ followed _ _ _ (x.parts ∙ followed _ _ _ (y.parts ∙ followed _ _ _ t.0))) in
     let grouped = whole ∙ sym (regrouped (element 0x80 eim) (element 0x81 eid) (element 0x82 (uint association)) (element 0x83 (uint counter)) (body operations)) in
-    subst (λ (q : Package). (content ≡ element 0x80 q.eim ++ element 0x81 q.eid ++ element 0x82 (uint q.association) ++ element 0x83 (uint q.counter) ++ body q.body) × IsPackage q) (some_is _ _ e5)
+    subst (λ (q : Package). (content ≡ element 0x80 q.eim ++ element 0x81 q.eid ++ element 0x82 (uint q.association) ++ element 0x83 (uint q.counter) ++ body q.body) × IsPackage q) (same_Some _ _ e5)
     (grouped, record { eim = v.fits; eid = w.fits; association = x.fits; counter = y.fits; body = t.1 }))))))
 
 -- how long the fields are at most
@@ -90,7 +91,7 @@ content_takes content s fits e =
     on_test (nat_le (length sign) 128) sign _ s e3 (λ few e4.
     let t = package_codec.takes inner.content made f.content read in
     let whole : content ≡ element 0x30 (package_fields made) ++ element 0x86 sign = f.parts ∙ ap (λ (c : List ℕ). element 0x30 c ++ inner.rest) t.0 ∙ followed _ _ _ g.octets in
-    subst (λ (q : Signed). (content ≡ element 0x30 (package_fields q.«package») ++ element 0x86 q.signature) × IsSigned q) (some_is _ _ e4)
+    subst (λ (q : Signed). (content ≡ element 0x30 (package_fields q.«package») ++ element 0x86 q.signature) × IsSigned q) (same_Some _ _ e4)
     (whole, record { «package» = t.1; signature = record { few = leb-true (length sign) 128 few; each = AllPass-from_bounds sign g.within } })))))
 
 content_again : (s : Signed) → IsSigned s → signed_of (signed_content s) ≡ Some s

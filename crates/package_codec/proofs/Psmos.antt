@@ -3,17 +3,18 @@ use Rattle.std.proofs.Common.{◌≡◌, ℕ, ◌≤◌, Bool, List, [], ◌++�
 use Rattle.sgp_der.specs.Element.{element}
 use Rattle.sgp_der.proofs.Elements.{element_few}
 use Rattle.sgp_der.proofs.Fields.{on_some}
-use Rattle.sgp_der.proofs.Lengths.{IsBytes}
 use Rattle.sgp_fields.specs.Fields.{mark, last_mark_at}
 use Rattle.sgp_fields.proofs.Codecs.{IsListed, IsSpelled, IsTaken}
 use Rattle.sgp_fields.proofs.Elements.{on_tag}
 use Rattle.sgp_fields.proofs.Marks.{last_mark_codec, mark_few}
-use Rattle.sgp_fields.proofs.Steps.{some_is, on_value, on_last, on_end, value_again, last_again}
+use Rattle.sgp_fields.proofs.Steps.{on_value, on_last, on_end, value_again, last_again}
 use Rattle.sgp_fields.proofs.ValueCodecs.{iccid_codec}
 use Rattle.sgp_values.specs.Iccids.{IsIccid}
 use Rattle.small_card.specs.Ranges.{IsPsmo}
 use Rattle.small_card.specs.declared.types.Psmo.{Psmo}
 use Rattle.small_card.specs.declared.types.Psmo.TheVariants as psmo_op
+use Rattle.std.proofs.lemmas.Option.{same_Some}
+use Rattle.iot_bytes.proofs.Framing.{IsBytes}
 use Rattle.package_codec.specs.Spelling.{iccid_content, enable_content, psmo}
 use Rattle.package_codec.specs.Reading.{enable_of, disable_of, delete_of, list_profiles_of, psmo_of}
 
@@ -24,25 +25,25 @@ enable_taken content op fits e =
     on_some (last_mark_at 0x81 rest) _ op e1 (λ rollback m e2.
     let t = (last_mark_codec 0x81 (omega arith)).takes rest rollback v.others m in
     let whole : content ≡ element 0x80 iccid ++ mark 0x81 rollback = v.parts ∙ ap (λ (r : List ℕ). element 0x80 iccid ++ r) t.0 in
-    subst (IsTaken psmo IsPsmo 0xa0 content) (some_is _ _ e2) (record { octets = ap (element 0xa0) whole; fits = v.fits })))
+    subst (IsTaken psmo IsPsmo 0xa0 content) (same_Some _ _ e2) (record { octets = ap (element 0xa0) whole; fits = v.fits })))
 
 disable_taken : (content : List ℕ) (op : Psmo) → IsBytes content → disable_of content ≡ Some op → IsTaken psmo IsPsmo 0xa1 content op
 unfolding disable_of iccid_content psmo IsPsmo
 disable_taken content op fits e =
     on_last iccid_codec 0x80 content _ op fits e (λ iccid l e1.
-    subst (IsTaken psmo IsPsmo 0xa1 content) (some_is _ _ e1) (record { octets = ap (element 0xa1) l.octets; fits = l.fits }))
+    subst (IsTaken psmo IsPsmo 0xa1 content) (same_Some _ _ e1) (record { octets = ap (element 0xa1) l.octets; fits = l.fits }))
 
 delete_taken : (content : List ℕ) (op : Psmo) → IsBytes content → delete_of content ≡ Some op → IsTaken psmo IsPsmo 0xa2 content op
 unfolding delete_of iccid_content psmo IsPsmo
 delete_taken content op fits e =
     on_last iccid_codec 0x80 content _ op fits e (λ iccid l e1.
-    subst (IsTaken psmo IsPsmo 0xa2 content) (some_is _ _ e1) (record { octets = ap (element 0xa2) l.octets; fits = l.fits }))
+    subst (IsTaken psmo IsPsmo 0xa2 content) (same_Some _ _ e1) (record { octets = ap (element 0xa2) l.octets; fits = l.fits }))
 
 list_taken : (content : List ℕ) (op : Psmo) → list_profiles_of content ≡ Some op → IsTaken psmo IsPsmo 0x83 content op
 unfolding list_profiles_of psmo IsPsmo
 list_taken content op e =
     on_end content _ op e (λ end e1.
-    subst (IsTaken psmo IsPsmo 0x83 content) (some_is _ _ e1) (record { octets = ap (element 0x83) end; fits = tt }))
+    subst (IsTaken psmo IsPsmo 0x83 content) (same_Some _ _ e1) (record { octets = ap (element 0x83) end; fits = tt }))
 
 psmo_taken : (tag : ℕ) (content : List ℕ) (op : Psmo) → IsBytes content → psmo_of tag content ≡ Some op → IsTaken psmo IsPsmo tag content op
 unfolding psmo_of

@@ -9,7 +9,7 @@ use Rattle.small_card.specs.Cards.{EimList}
 use Rattle.small_card.specs.Checks.{refused, has_association, has_room, eim_refusal, later_refusal, value_refusal}
 use Rattle.small_card.specs.Histories.{History, card_of, former_of, full_of, kept, with_unit}
 use Rattle.small_card.specs.Laws.{IsCounted}
-use Rattle.small_card.specs.Legal.{IsLegal, IsLegalFrom, May}
+use Rattle.small_card.specs.Legal.{IsLegal, May}
 use Rattle.small_card.specs.Lists.{same, Every}
 use Rattle.small_card.specs.EimOperations.{is_eim, has_eim, line_of, is_empty_list, last_association, do_eco}
 use Rattle.small_card.specs.Packages.{result_of, with_result}
@@ -27,10 +27,10 @@ use Rattle.small_card.specs.declared.types.Package.{Package}
 use Rattle.small_card.specs.declared.types.Refused.{Refused}
 use Rattle.small_card.specs.declared.types.Signed.{Signed}
 use Rattle.small_card.proofs.Counting.{legal_counted}
-use Rattle.small_card.proofs.ListLemmas.{same_yes, any_every, every_both, every_mono}
+use Rattle.small_card.proofs.ListLemmas.{same_yes, any_every, every_both, every_mono, every_last}
 use Rattle.small_card.proofs.Looking.{full_more}
 use Rattle.small_card.proofs.EimLemmas.{eco_keeps}
-use Rattle.small_card.proofs.Validity.{legal_valid}
+use Rattle.small_card.proofs.Validity.{legal_valid, more_legal}
 use Rattle.package_codec.specs.Checks.{verdict_refusal, package_refusal, unless_refused, check_read, check, most_octets}
 use Rattle.package_codec.specs.Reading.{signed_at}
 use Rattle.package_codec.specs.Replies.{load_reply, rollback_reply, initial_reply, reply, unit_of_load, unit_of_rollback, unit_of_initial, unit_of, grown, after, after_all}
@@ -40,7 +40,7 @@ abbrev pub ReadsInRange : Type 0
 ReadsInRange = (bytes : List ℕ) (s : Signed) → AllPass is_octet bytes → signed_at bytes ≡ Some s → IsSigned s
 
 -- neither of two refusals came
-neither : (o p : Option Refused) → option_or o p ≡ None → (o ≡ None) × (p ≡ None)
+pub neither : (o p : Option Refused) → option_or o p ≡ None → (o ≡ None) × (p ≡ None)
 neither (Some r) p e = absurd cc
 neither None p e = (refl, e)
 
@@ -79,19 +79,15 @@ accepted h good bytes p e =
       | false ↦ λ f. absurd cc
     ] e
 
-more_legal : (h : History) (u : CardUnit) → IsLegal h → May h u → IsLegal (with_unit h u)
-unfolding IsLegal IsLegalFrom with_unit
-more_legal h u l m = (l, m)
-
-may_load : (h : History) (p : Package) → IsPackage p → value_refusal h p ≡ None → May h (load p)
+pub may_load : (h : History) (p : Package) → IsPackage p → value_refusal h p ≡ None → May h (load p)
 unfolding May
 may_load h p range checks = record { range = range; checks = checks }
 
-may_roll : (h : History) (armed : Armed) → former_of h ≡ Some armed → May h rollback
+pub may_roll : (h : History) (armed : Armed) → former_of h ≡ Some armed → May h rollback
 unfolding May
 may_roll h armed e = subst IsSome (sym e) refl
 
-may_remove : (h : History) (seq : ℕ) → is_pending seq (card_of h).results.pending ≡ true → May h (remove seq)
+pub may_remove : (h : History) (seq : ℕ) → is_pending seq (card_of h).results.pending ≡ true → May h (remove seq)
 unfolding May
 may_remove h seq e = e
 
@@ -257,20 +253,16 @@ check_refused range h good bytes r octets l e =
       | false ↦ λ f. let same : refused 8 ≡ r = cc in subst IsRefused same (plain_fits 8 (omega arith) (omega arith))
     ] e
 
-last_of : {X : Type 0} (P : X → Type 0) (xs : List X) (y : X) → Every P (xs ++ y ∷ []) → P y
-last_of P [] y h = h.0
-last_of P (x ∷ xs) y h = last_of P xs y h.1
-
 -- a load adds its result
 pub loaded_pending : (h : History) (p : Package) → (card_of (with_unit h (load p))).results.pending ≡ (card_of h).results.pending ++ result_of (card_of h) p ∷ []
 unfolding full_of step_full after_unit loaded with_result
 loaded_pending h p = ap (λ f. f.card.results.pending) (full_more h (load p))
 
-result_fits : (h : History) (p : Package) → IsLegal (with_unit h (load p)) → IsResult (result_of (card_of h) p)
+pub result_fits : (h : History) (p : Package) → IsLegal (with_unit h (load p)) → IsResult (result_of (card_of h) p)
 result_fits h p l =
     let v = (valid_card (with_unit h (load p)) (legal_valid (with_unit h (load p)) l)).results in
     let n = (card_of (with_unit h (load p))).results.next in
-    (last_of (IsPending n) (card_of h).results.pending (result_of (card_of h) p) (subst (Every (IsPending n)) (loaded_pending h p) v.each)).result
+    (every_last (IsPending n) (card_of h).results.pending (result_of (card_of h) p) (subst (Every (IsPending n)) (loaded_pending h p) v.each)).result
 
 load_fits : ReadsInRange → (h : History) (good : Bool) (bytes : List ℕ) (r : Result Package Refused) → check h good bytes ≡ r → AllPass is_octet bytes → IsLegal h → IsAnswer (load_reply h r)
 unfolding IsAnswer

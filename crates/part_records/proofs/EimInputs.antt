@@ -1,28 +1,26 @@
 -- What comes to a manager: what is read was spelled so, and what is spelled is read again.
-use Rattle.std.proofs.Common.{◌≡◌, ℕ, ◌≤◌, List, [], ◌++◌, length, Some, refl, ap, subst, ◌∙◌, arith, length-append}
+use Rattle.std.proofs.Common.{◌≡◌, ℕ, ◌≤◌, List, [], ◌++◌, length, Some, refl, ap, subst, arith, length-append}
 use Rattle.std.specs.List.{flat_map}
-use Rattle.std.specs.Prelude.{◌==◌}
 use Rattle.sgp_der.specs.Element.{element}
 use Rattle.sgp_der.specs.Number.{uint}
-use Rattle.sgp_der.proofs.Lengths.{IsBytes}
 use Rattle.sgp_der.proofs.Fields.{on_some}
 use Rattle.sgp_fields.specs.Alone.{made_of}
-use Rattle.sgp_fields.specs.Fields.{last_at}
 use Rattle.sgp_fields.specs.Values.{number_of}
 use Rattle.sgp_fields.proofs.AloneCodec.{on_made, made_again}
 use Rattle.sgp_fields.proofs.Codecs.{IsCodec, IsListed, IsSpelled, IsTaken}
 use Rattle.sgp_fields.proofs.Elements.{on_tag, whole_codec}
-use Rattle.sgp_fields.proofs.Steps.{some_is, on_value, on_last, value_again, last_again}
+use Rattle.sgp_fields.proofs.Steps.{on_value, on_last, value_again, last_again}
 use Rattle.sgp_fields.proofs.ValueCodecs.{number_codec, mark_codec, IsIn}
 use Rattle.sgp_fields.proofs.Sizes.{short, number_few, counter_few}
-use Rattle.small_card.specs.Ranges.{IsBody, IsNumber, greatest_counter}
-use Rattle.small_card.specs.declared.types.Body.{Body}
+use Rattle.small_card.specs.Ranges.{greatest_counter}
 use Rattle.small_card.specs.declared.types.Body.TheVariants.{Psmos, Ecos}
 use Rattle.package_codec.specs.Reading.{body_of}
 use Rattle.package_codec.specs.Spelling.{psmo, eco, body}
 use Rattle.package_codec.proofs.Bodies.{body_listed, psmos_again, ecos_again, psmos_few, ecos_few}
 use Rattle.esipa_codec.specs.Spelling.{to_eim}
 use Rattle.esipa_codec.proofs.ToEimCodec.{to_eim_codec, to_eim_few}
+use Rattle.std.proofs.lemmas.Option.{same_Some}
+use Rattle.iot_bytes.proofs.Framing.{IsBytes}
 use Rattle.part_records.specs.Ranges.{IsBind, IsEimInput}
 use Rattle.part_records.specs.Reading.{bind_of, eim_input_of, eim_input_at}
 use Rattle.part_records.specs.Spelling.{bind_content, eim_input}
@@ -42,14 +40,14 @@ bind_taken content x fits e =
     on_last last_codec 0x81 rest _ x a.others e1 (λ last b e2.
     let whole : content ≡ element 0x80 (uint association) ++ element 0x81 (uint last) = cc (a.parts, b.octets) in
     let range : IsBind association last = record { association = record { some = a.fits.low; fits = a.fits.high }; last = b.fits.high } in
-    subst (λ (y : EimInput). IsTaken eim_input IsEimInput 0xa0 content y) (some_is _ _ e2) (record { octets = ap (element 0xa0) whole; fits = range })))
+    subst (λ (y : EimInput). IsTaken eim_input IsEimInput 0xa0 content y) (same_Some _ _ e2) (record { octets = ap (element 0xa0) whole; fits = range })))
 
 order_taken : (tag : ℕ) (content : List ℕ) (x : EimInput) → IsBytes content → length content ≤ 16777215 → made_of (body_of tag) eim_in.Order content ≡ Some x → IsTaken eim_input IsEimInput tag content x
 unfolding eim_input IsEimInput
 order_taken tag content x fits few e =
     on_some (body_of tag content) _ x e (λ b read e1.
     let t = body_listed.takes tag content b fits few read in
-    subst (λ (y : EimInput). IsTaken eim_input IsEimInput tag content y) (some_is _ _ e1) (record { octets = t.octets; fits = t.fits }))
+    subst (λ (y : EimInput). IsTaken eim_input IsEimInput tag content y) (same_Some _ _ e1) (record { octets = t.octets; fits = t.fits }))
 
 taken : (tag : ℕ) (content : List ℕ) (x : EimInput) → IsBytes content → length content ≤ 16777215 → eim_input_of tag content ≡ Some x → IsTaken eim_input IsEimInput tag content x
 unfolding eim_input_of eim_input IsEimInput

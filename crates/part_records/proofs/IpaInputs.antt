@@ -1,18 +1,17 @@
 -- What comes to an assistant: what is read was spelled so, and what is spelled is read again.
-use Rattle.std.proofs.Common.{◌≡◌, ℕ, ◌≤◌, Bool, true, false, cond, List, [], ◌++◌, length, Option, Some, None, refl, ap, subst, ◌∙◌, arith, length-append}
-use Rattle.std.specs.Prelude.{◌==◌, nat_le}
+use Rattle.std.proofs.Common.{◌≡◌, ℕ, ◌≤◌, Bool, List, [], ◌++◌, length, Some, refl, ap, subst, arith, length-append}
+use Rattle.std.specs.Prelude.{nat_le}
 use Rattle.std.proofs.lemmas.Bool.{leb-true, le-leb}
 use Rattle.iot_bytes.specs.declared.frame.TheConstants.{FRAME_LIMIT}
 use Rattle.sgp_der.specs.Element.{element}
 use Rattle.sgp_der.proofs.Elements.{length-element}
-use Rattle.sgp_der.proofs.Lengths.{IsBytes}
 use Rattle.sgp_fields.specs.Laws.{OneSpelling}
 use Rattle.sgp_fields.specs.Values.{flag_content}
 use Rattle.sgp_fields.specs.Elements.{whole_at}
 use Rattle.sgp_fields.proofs.AloneCodec.{on_made, made_again}
 use Rattle.sgp_fields.proofs.Codecs.{IsCodec, IsListed, IsSpelled, IsTaken}
 use Rattle.sgp_fields.proofs.Elements.{on_tag, tagged_some, whole_codec, one_spelling}
-use Rattle.sgp_fields.proofs.Steps.{some_is, on_value, on_last, value_again, last_again}
+use Rattle.sgp_fields.proofs.Steps.{on_value, on_last, value_again, last_again}
 use Rattle.sgp_fields.proofs.ValueCodecs.{eim_id_codec, flag_codec, flag_few, mark_codec}
 use Rattle.sgp_values.specs.Ranges.{IsEimId}
 use Rattle.es10_codec.specs.Spelling.{answer}
@@ -21,6 +20,8 @@ use Rattle.esipa_codec.specs.Ranges.{IsToIpa}
 use Rattle.esipa_codec.specs.Spelling.{to_ipa}
 use Rattle.esipa_codec.specs.declared.messages.ToIpa.{ToIpa}
 use Rattle.esipa_codec.proofs.ToIpaCodec.{to_ipa_codec}
+use Rattle.std.proofs.lemmas.Option.{same_Some}
+use Rattle.iot_bytes.proofs.Framing.{IsBytes}
 use Rattle.part_records.specs.Ranges.{IsIpaInput}
 use Rattle.part_records.specs.Reading.{message_of, ipa_input_of, ipa_input_at}
 use Rattle.part_records.specs.Spelling.{message_content, ipa_input, IsFramable}
@@ -47,7 +48,7 @@ message_taken content x fits few e =
     on_value flag_codec 0x81 rest _ x a.others e1 (λ good rest1 b e2.
     on_last to_ipa_codec 0xa2 rest1 _ x b.others e2 (λ m c e3.
     let whole : content ≡ element 0x80 from ++ (element 0x81 (flag_content good) ++ element 0xa2 (to_ipa m)) = cc (a.parts, b.parts, c.octets) in
-    subst (λ (y : IpaInput). IsTaken ipa_input IsSpellable 0xa0 content y) (some_is _ _ e3) (record { octets = ap (element 0xa0) whole; fits = record { range = (a.fits, c.fits); short = subst (λ (o : List ℕ). length o ≤ 16777215) whole few } }))))
+    subst (λ (y : IpaInput). IsTaken ipa_input IsSpellable 0xa0 content y) (same_Some _ _ e3) (record { octets = ap (element 0xa0) whole; fits = record { range = (a.fits, c.fits); short = subst (λ (o : List ℕ). length o ≤ 16777215) whole few } }))))
 
 taken : (tag : ℕ) (content : List ℕ) (x : IpaInput) → IsBytes content → length content ≤ 16777215 → ipa_input_of tag content ≡ Some x → IsTaken ipa_input IsSpellable tag content x
 unfolding ipa_input_of ipa_input IsIpaInput IsShort
@@ -101,9 +102,6 @@ spellable ipa_in.Restart h le = tt
 spellable ipa_in.Push h le = tt
 spellable (ipa_in.Answered a) h le = tt
 spellable (ipa_in.Poll id) h le = tt
-
-pub framable_spelled : (x : IpaInput) → IsFramable x → IsSpelled ipa_input_of ipa_input x
-framable_spelled x f = spelled x f.range (spellable x f.range f.short)
 
 framed_takes : (bytes : List ℕ) (x : IpaInput) → IsBytes bytes → ipa_input_at bytes ≡ Some x → (bytes ≡ ipa_input x) × IsFramable x
 unfolding ipa_input_at

@@ -8,7 +8,6 @@ use Rattle.sgp_der.specs.Number.{uint}
 use Rattle.sgp_der.specs.Fields.{◌>>=◌}
 use Rattle.sgp_der.proofs.Elements.{element_few, element_split, length-element}
 use Rattle.sgp_der.proofs.Fields.{on_some}
-use Rattle.sgp_der.proofs.Lengths.{IsBytes}
 use Rattle.sgp_der.proofs.Values.{uint_few}
 use Rattle.sgp_fields.specs.Alone.{made_of, empty_of, number_alone, number_alone_of}
 use Rattle.sgp_fields.specs.Elements.{tagged_as}
@@ -21,7 +20,7 @@ use Rattle.sgp_fields.proofs.Clauses.{one_by}
 use Rattle.sgp_fields.proofs.Codecs.{IsCodec, IsListed, IsSpelled, IsTaken}
 use Rattle.sgp_fields.proofs.Elements.{on_tag, record_listed, one_spelling}
 use Rattle.sgp_fields.proofs.ListCodec.{IsList, list_codec}
-use Rattle.sgp_fields.proofs.Steps.{some_is, on_value, on_last, value_again, last_again}
+use Rattle.sgp_fields.proofs.Steps.{on_value, on_last, value_again, last_again}
 use Rattle.sgp_fields.proofs.ValueCodecs.{chosen, eim_id_codec, number_codec, mark_codec, IsAny, IsIn}
 use Rattle.sgp_values.specs.Reading.{eim_id_of}
 use Rattle.small_card.specs.declared.types.Command.{Command}
@@ -32,6 +31,8 @@ use Rattle.esipa_codec.specs.Spelling.{to_eim, to_ipa}
 use Rattle.esipa_codec.specs.declared.messages.Post.{Post}
 use Rattle.esipa_codec.proofs.ToEimCodec.{to_eim_codec, to_eim_few}
 use Rattle.esipa_codec.proofs.ToIpaCodec.{to_ipa_codec}
+use Rattle.std.proofs.lemmas.Option.{same_Some}
+use Rattle.iot_bytes.proofs.Framing.{IsBytes}
 use Rattle.part_records.specs.Ranges.{IsEimOutput, IsPost, AreDeeds, IsSaid}
 use Rattle.part_records.specs.Spelling.{eim_output, refusal_code, post_content, post, deeds_content, deeds}
 use Rattle.part_records.specs.declared.records.EimOutput.{EimOutput}
@@ -54,16 +55,16 @@ refusal_of code =
 refusal_taken : (code : ℕ) (why : EimRefusal) → refusal_of code ≡ Some why → code ≡ refusal_code why
 refusal_taken code why e =
     elim (chosen (code == 1) _ _ _ e) [
-      | inl is ↦ eqb-true code 1 is.0 ∙ ap refusal_code (some_is _ _ is.1)
+      | inl is ↦ eqb-true code 1 is.0 ∙ ap refusal_code (same_Some _ _ is.1)
       | inr n1 ↦
           elim (chosen (code == 2) _ _ _ n1.1) [
-            | inl is ↦ eqb-true code 2 is.0 ∙ ap refusal_code (some_is _ _ is.1)
+            | inl is ↦ eqb-true code 2 is.0 ∙ ap refusal_code (same_Some _ _ is.1)
             | inr n2 ↦
                 elim (chosen (code == 3) _ _ _ n2.1) [
-                  | inl is ↦ eqb-true code 3 is.0 ∙ ap refusal_code (some_is _ _ is.1)
+                  | inl is ↦ eqb-true code 3 is.0 ∙ ap refusal_code (same_Some _ _ is.1)
                   | inr n3 ↦
                       elim (chosen (code == 4) _ _ _ n3.1) [
-                        | inl is ↦ eqb-true code 4 is.0 ∙ ap refusal_code (some_is _ _ is.1)
+                        | inl is ↦ eqb-true code 4 is.0 ∙ ap refusal_code (same_Some _ _ is.1)
                         | inr n4 ↦ absurd cc
                       ]
                 ]
@@ -108,7 +109,7 @@ unfolding eim_output IsEimOutput
 reply_taken content x fits few e =
     on_some (to_ipa_at content) _ x e (λ m read e1.
     let t = to_ipa_codec.takes content m fits read in
-    subst (λ (y : EimOutput). IsTaken eim_output IsEimOutput 0xa4 content y) (some_is _ _ e1)
+    subst (λ (y : EimOutput). IsTaken eim_output IsEimOutput 0xa4 content y) (same_Some _ _ e1)
     (record { octets = ap (element 0xa4) t.0; fits = record { range = t.1; short = subst (λ (o : List ℕ). length o ≤ 16777215) t.0 few } }))
 
 output_taken : (tag : ℕ) (content : List ℕ) (x : EimOutput) → IsBytes content → length content ≤ 16777215 → eim_output_of tag content ≡ Some x → IsTaken eim_output IsEimOutput tag content x
@@ -153,7 +154,7 @@ post_takes content p fits e =
     on_value eim_id_codec 0x80 content _ p fits e (λ to rest a e1.
     on_last to_eim_codec 0xa2 rest _ p a.others e1 (λ m b e2.
     let whole : content ≡ element 0x80 to ++ element 0xa2 (to_eim m) = cc (a.parts, b.octets) in
-    subst (λ (q : Post). (content ≡ element 0x80 q.to ++ element 0xa2 (to_eim q.message)) × IsPost q) (some_is _ _ e2) (whole, record { to = a.fits; message = b.fits })))
+    subst (λ (q : Post). (content ≡ element 0x80 q.to ++ element 0xa2 (to_eim q.message)) × IsPost q) (same_Some _ _ e2) (whole, record { to = a.fits; message = b.fits })))
 
 post_again : (p : Post) → IsPost p → post_of (post_content p) ≡ Some p
 unfolding post_content

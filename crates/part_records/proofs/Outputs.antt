@@ -1,6 +1,5 @@
 -- What managers and assistants give is short.
-use Rattle.std.proofs.Common.{ℕ, ◌≤◌, ◌*◌, List, [], length, arith, length-append}
-use Rattle.std.specs.List.{flat_map}
+use Rattle.std.proofs.Common.{◌≤◌, [], length, arith, length-append}
 use Rattle.sgp_der.specs.Element.{element}
 use Rattle.sgp_der.specs.Number.{uint}
 use Rattle.sgp_der.proofs.Elements.{element_few}

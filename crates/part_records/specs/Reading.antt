@@ -1,7 +1,7 @@
 -- Reading what comes to managers and assistants from left to right.
 use Rattle.std.specs.Prelude.{ℕ, ◌==◌, nat_le, List, length, Option, Some, None, if◌then◌else◌}
 use Rattle.iot_bytes.specs.declared.frame.TheConstants.{FRAME_LIMIT}
-use Rattle.sgp_der.specs.Fields.{◌>>=◌, only_at}
+use Rattle.sgp_der.specs.Fields.{◌>>=◌}
 use Rattle.sgp_values.specs.Reading.{eim_id_of}
 use Rattle.sgp_fields.specs.Alone.{made_of, empty_of}
 use Rattle.sgp_fields.specs.Elements.{whole_at}

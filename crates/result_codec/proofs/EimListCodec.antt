@@ -3,7 +3,6 @@ use Rattle.std.proofs.Common.{◌≡◌, ℕ, ◌≤◌, List, ◌++◌, length,
 use Rattle.std.specs.List.{flat_map}
 use Rattle.sgp_der.specs.Element.{element}
 use Rattle.sgp_der.specs.Number.{uint}
-use Rattle.sgp_der.proofs.Lengths.{IsBytes}
 use Rattle.sgp_der.proofs.Fields.{on_some, guard_some}
 use Rattle.sgp_values.specs.Ranges.{IsEimId, IsAddress}
 use Rattle.sgp_fields.specs.Fields.{octets}
@@ -11,7 +10,7 @@ use Rattle.sgp_fields.specs.Values.{number_of}
 use Rattle.sgp_fields.specs.Lists.{list_at}
 use Rattle.sgp_fields.proofs.Codecs.{IsCodec, IsListed, IsValue, IsLast}
 use Rattle.sgp_fields.proofs.Elements.{record_listed}
-use Rattle.sgp_fields.proofs.Steps.{some_is, on_value, on_last, value_again, last_again, only_if_again}
+use Rattle.sgp_fields.proofs.Steps.{on_value, on_last, value_again, last_again, only_if_again}
 use Rattle.sgp_fields.proofs.ValueCodecs.{eim_id_codec, address_codec}
 use Rattle.sgp_fields.proofs.ListCodec.{list_codec}
 use Rattle.sgp_fields.proofs.Numbers.{card_number_codec, up_to_codec, IsUpTo}
@@ -20,6 +19,8 @@ use Rattle.small_card.specs.Pairs.{each_pair, are_lines_apart}
 use Rattle.small_card.specs.Ranges.{IsNumber, IsEimLine, IsEimList, greatest_counter}
 use Rattle.small_card.specs.declared.types.EimLine.{EimLine}
 use Rattle.small_card.proofs.PairTests.{line_pairs, pairs_take, pairs_again}
+use Rattle.std.proofs.lemmas.Option.{same_Some}
+use Rattle.iot_bytes.proofs.Framing.{IsBytes}
 use Rattle.result_codec.specs.Spelling.{eim_line_content, eim_line, eim_lines}
 use Rattle.result_codec.specs.Reading.{eim_line_fields, eim_line_of, eim_lines_at}
 
@@ -43,7 +44,7 @@ line_takes content e fits is =
     on_value address_codec 0x81 r1 _ e a.others e1 (λ address r2 b e2.
     on_value card_number_codec 0x82 r2 _ e b.others e2 (λ association r3 c e3.
     on_last kept_codec 0x83 r3 _ e c.others e3 (λ counter d e4.
-    line_made content r1 r2 r3 id address association counter e a b c d (some_is _ _ e4)))))
+    line_made content r1 r2 r3 id address association counter e a b c d (same_Some _ _ e4)))))
 
 line_again : (e : EimLine) → IsEimLine e → eim_line_fields (eim_line_content e) ≡ Some e
 unfolding eim_line_fields eim_line_content

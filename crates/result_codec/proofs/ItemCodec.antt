@@ -5,7 +5,6 @@ use Rattle.std.specs.List.{flat_map}
 use Rattle.std.proofs.lemmas.Bool.{eqb-true, eqb-false, ne_eqb, cases_eq, cond-false}
 use Rattle.sgp_der.specs.Element.{element}
 use Rattle.sgp_der.specs.Number.{uint}
-use Rattle.sgp_der.proofs.Lengths.{IsBytes}
 use Rattle.sgp_der.proofs.Fields.{on_some}
 use Rattle.sgp_fields.specs.Values.{number_of}
 use Rattle.sgp_fields.specs.Lists.{list_at}
@@ -13,7 +12,7 @@ use Rattle.sgp_fields.specs.Alone.{made_of, number_alone, number_alone_of}
 use Rattle.sgp_fields.proofs.Codecs.{IsCodec, IsListed, IsSpelled, IsTaken, IsValue}
 use Rattle.sgp_fields.proofs.Elements.{on_tag}
 use Rattle.sgp_fields.proofs.AloneCodec.{number_alone_codec, on_made, made_again}
-use Rattle.sgp_fields.proofs.Steps.{some_is, on_value, on_last, on_end, value_again, last_again}
+use Rattle.sgp_fields.proofs.Steps.{on_value, on_last, on_end, value_again, last_again}
 use Rattle.sgp_fields.proofs.ValueCodecs.{chosen, IsIn}
 use Rattle.sgp_fields.proofs.ListCodec.{list_codec, some_takes, some_again}
 use Rattle.sgp_fields.proofs.Numbers.{card_number_codec, up_to_codec, IsUpTo}
@@ -22,6 +21,8 @@ use Rattle.small_card.specs.Lists.{Every}
 use Rattle.small_card.specs.Ranges.{IsAdd, IsItem, IsOneToEight}
 use Rattle.small_card.specs.declared.types.Item.{Item}
 use Rattle.small_card.specs.declared.types.Item.TheVariants as done
+use Rattle.std.proofs.lemmas.Option.{same_Some}
+use Rattle.iot_bytes.proofs.Framing.{IsBytes}
 use Rattle.result_codec.specs.Spelling.{profiles, eim_lines, new_association, add_content, item, items}
 use Rattle.result_codec.specs.Reading.{done_at, not_done_at, add_at, item_of, items_at}
 use Rattle.result_codec.proofs.TableCodec.{profiles_codec, profiles_few}
@@ -42,7 +43,7 @@ unfolding Taken done_at item IsItem add_content
 done_taken content rest code i a z e =
     on_last card_number_codec 0x81 rest _ i a.others e (λ n l e1.
     let whole : content ≡ element 0x80 (uint 0) ++ element 0x81 (uint n) = cc (a.parts, l.octets, z) in
-    subst (λ (x : Item). IsTaken item IsItem 0xa8 content x) (some_is _ _ e1)
+    subst (λ (x : Item). IsTaken item IsItem 0xa8 content x) (same_Some _ _ e1)
     (record { octets = ap (element 0xa8) whole; fits = record { code = omega arith; fits = l.fits.fits; there = (λ h. refl, λ h. l.fits.some) } }))
 
 not_done_taken : (content rest : List ℕ) (code : ℕ) (i : Item) → IsValue uint (IsUpTo 3) 0x80 content code rest → code ≢ 0 → not_done_at code rest ≡ Some i → Taken 0xa8 content i
@@ -51,7 +52,7 @@ not_done_taken content rest code i a nz e =
     on_end rest _ i e (λ none e1.
     let none_added : new_association code 0 ≡ [] = cond-false (code == 0) (element 0x81 (uint 0)) [] (ne_eqb code 0 nz) in
     let whole : content ≡ element 0x80 (uint code) ++ new_association code 0 = cc (a.parts, none, none_added) in
-    subst (λ (x : Item). IsTaken item IsItem 0xa8 content x) (some_is _ _ e1)
+    subst (λ (x : Item). IsTaken item IsItem 0xa8 content x) (same_Some _ _ e1)
     (record { octets = ap (element 0xa8) whole; fits = record { code = a.fits; fits = omega arith; there = (λ h. absurd (omega arith), λ h. absurd (nz h)) } }))
 
 add_taken : (content : List ℕ) (i : Item) → IsBytes content → add_at content ≡ Some i → Taken 0xa8 content i

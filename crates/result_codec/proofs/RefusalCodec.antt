@@ -4,7 +4,6 @@ use Rattle.std.specs.Prelude.{◌==◌, ◌&&◌}
 use Rattle.std.proofs.lemmas.Bool.{eqb-true, eq-eqb, or_cases, and_parts, and_from, or_left, or_right, cases_eq}
 use Rattle.sgp_der.specs.Element.{element}
 use Rattle.sgp_der.specs.Number.{uint}
-use Rattle.sgp_der.proofs.Lengths.{IsBytes}
 use Rattle.sgp_der.proofs.Fields.{guard_some}
 use Rattle.sgp_fields.specs.Values.{number_of}
 use Rattle.sgp_fields.proofs.Codecs.{IsCodec, IsValue, IsLast}
@@ -14,6 +13,7 @@ use Rattle.sgp_fields.proofs.Numbers.{up_to_codec, IsUpTo}
 use Rattle.sgp_fields.proofs.Sizes.{short, code_few, counter_few}
 use Rattle.small_card.specs.Ranges.{IsRefused, greatest_counter}
 use Rattle.small_card.specs.declared.types.Refused.{Refused}
+use Rattle.iot_bytes.proofs.Framing.{IsBytes}
 use Rattle.result_codec.specs.Spelling.{refusal}
 use Rattle.result_codec.specs.Reading.{may_carry, refusal_of}
 

@@ -3,7 +3,6 @@ use Rattle.std.proofs.Common.{◌≡◌, ℕ, ◌≤◌, Bool, List, ◌++◌, l
 use Rattle.sgp_der.specs.Element.{element}
 use Rattle.sgp_der.specs.Number.{uint}
 use Rattle.sgp_der.specs.Reading.{Part}
-use Rattle.sgp_der.proofs.Lengths.{IsBytes}
 use Rattle.sgp_der.proofs.Fields.{on_some, field_again, IsField}
 use Rattle.sgp_values.specs.Ranges.{IsEimId}
 use Rattle.sgp_fields.specs.Fields.{octets, mark, last_mark_at}
@@ -12,13 +11,15 @@ use Rattle.sgp_fields.specs.Laws.{OneSpelling}
 use Rattle.sgp_fields.proofs.Codecs.{IsCodec, IsListed, IsValue}
 use Rattle.sgp_fields.proofs.Elements.{record_codec, record_listed, one_spelling}
 use Rattle.sgp_fields.proofs.Marks.{last_mark_codec, mark_few}
-use Rattle.sgp_fields.proofs.Steps.{some_is, on_value, on_field, value_again}
+use Rattle.sgp_fields.proofs.Steps.{on_value, on_field, value_again}
 use Rattle.sgp_fields.proofs.ValueCodecs.{eim_id_codec, IsAny}
 use Rattle.sgp_fields.proofs.Numbers.{card_number_codec, counter_codec}
 use Rattle.sgp_fields.proofs.Sizes.{short, middle, long, number_few, counter_few}
 use Rattle.small_card.specs.Ranges.{IsNumber, IsCounter, IsResult}
 use Rattle.small_card.specs.declared.types.Item.{Item}
 use Rattle.small_card.specs.declared.types.PackageResult.{PackageResult}
+use Rattle.std.proofs.lemmas.Option.{same_Some}
+use Rattle.iot_bytes.proofs.Framing.{IsBytes}
 use Rattle.result_codec.specs.Spelling.{items, result_content, result}
 use Rattle.result_codec.specs.Reading.{items_at, result_of, result_at}
 use Rattle.result_codec.proofs.ItemCodec.{items_codec, items_few, IsItems}
@@ -47,7 +48,7 @@ fields_take content r fits e =
     on_field 0xa4 r4 _ r d.others e4 (λ p f e5.
     on_some (items_at p.content) _ r e5 (λ is i e6.
     on_some (last_mark_at 0x85 p.rest) _ r e6 (λ rolled m e7.
-    result_made content r1 r2 r3 r4 seq eim association counter p is rolled r a b c d f (items_codec.takes p.content is f.content i) (marks.takes p.rest rolled f.rest m).0 (some_is _ _ e7))))))))
+    result_made content r1 r2 r3 r4 seq eim association counter p is rolled r a b c d f (items_codec.takes p.content is f.content i) (marks.takes p.rest rolled f.rest m).0 (same_Some _ _ e7))))))))
 
 items_of_result : (r : PackageResult) → IsResult r → IsItems r.items
 items_of_result r h = record { many = h.many; each = h.items }

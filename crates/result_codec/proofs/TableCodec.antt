@@ -2,7 +2,6 @@
 use Rattle.std.proofs.Common.{◌≡◌, ℕ, ◌≤◌, Bool, true, false, List, ◌++◌, length, Some, refl, sym, ap, subst, ◌∙◌, arith, append_assoc, length-append}
 use Rattle.std.specs.List.{flat_map}
 use Rattle.sgp_der.specs.Element.{element}
-use Rattle.sgp_der.proofs.Lengths.{IsBytes}
 use Rattle.sgp_der.proofs.Fields.{on_some, guard_some}
 use Rattle.sgp_values.specs.Iccids.{IsIccid}
 use Rattle.sgp_values.specs.Ranges.{IsNickname}
@@ -11,7 +10,7 @@ use Rattle.sgp_fields.specs.Fields.{octets}
 use Rattle.sgp_fields.specs.Lists.{list_at}
 use Rattle.sgp_fields.proofs.Codecs.{IsCodec, IsListed, IsValue, IsLast}
 use Rattle.sgp_fields.proofs.Elements.{record_listed}
-use Rattle.sgp_fields.proofs.Steps.{some_is, on_value, on_last, value_again, last_again, only_if_again}
+use Rattle.sgp_fields.proofs.Steps.{on_value, on_last, value_again, last_again, only_if_again}
 use Rattle.sgp_fields.proofs.ValueCodecs.{iccid_codec, nickname_codec, flag_codec, flag_few, IsAny}
 use Rattle.sgp_fields.proofs.ListCodec.{list_codec}
 use Rattle.sgp_fields.proofs.Sizes.{short, code_few, flat_few}
@@ -19,6 +18,8 @@ use Rattle.small_card.specs.Pairs.{each_pair, are_profiles_apart}
 use Rattle.small_card.specs.Ranges.{IsProfile, IsTable}
 use Rattle.small_card.specs.declared.types.Profile.{Profile}
 use Rattle.small_card.proofs.PairTests.{profile_pairs, pairs_take, pairs_again}
+use Rattle.std.proofs.lemmas.Option.{same_Some}
+use Rattle.iot_bytes.proofs.Framing.{IsBytes}
 use Rattle.result_codec.specs.Spelling.{profile_content, profile, profiles}
 use Rattle.result_codec.specs.Reading.{profile_fields, profile_of, profiles_at}
 
@@ -37,7 +38,7 @@ profile_takes content p fits e =
     on_value iccid_codec 0x80 content _ p fits e (λ iccid rest a e1.
     on_value flag_codec 0x81 rest _ p a.others e1 (λ enabled others b e2.
     on_last nickname_codec 0x82 others _ p b.others e2 (λ nickname c e3.
-    profile_made content rest others iccid enabled nickname p a b c (some_is _ _ e3))))
+    profile_made content rest others iccid enabled nickname p a b c (same_Some _ _ e3))))
 
 profile_again : (p : Profile) → IsProfile p → profile_fields (profile_content p) ≡ Some p
 unfolding profile_fields profile_content

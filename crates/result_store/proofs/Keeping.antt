@@ -4,9 +4,9 @@ use Rattle.std.specs.Prelude.{nat_le, ◌↔◌, IsSome, find}
 use Rattle.std.specs.Borrow.{Bor}
 use Rattle.std.specs.Option.{option_copied, option_to_list, is_some}
 use Rattle.std.specs.List.{filter, list_any}
-use Rattle.std.proofs.lemmas.Bool.{eqb-true, leb-true, leb-false, not-true, and_parts, true≢false}
-use Rattle.std.proofs.lemmas.List.{length-append, length-map}
-use Rattle.small_card.specs.Lists.{Every, EveryPair, without}
+use Rattle.std.proofs.lemmas.Bool.{leb-true, leb-false, not-true, and_parts, true≢false}
+use Rattle.std.proofs.lemmas.List.{length-append}
+use Rattle.small_card.specs.Lists.{without}
 use Rattle.small_card.specs.Cards.{Results}
 use Rattle.small_card.specs.Checks.{has_room}
 use Rattle.small_card.specs.Packages.{with_result}
@@ -14,7 +14,8 @@ use Rattle.small_card.specs.Units.{has_seq, is_pending, without_result, with_mar
 use Rattle.small_card.specs.Ranges.{IsBefore}
 use Rattle.small_card.specs.Valid.{IsPending, AreResults}
 use Rattle.small_card.specs.declared.types.PackageResult.{PackageResult}
-use Rattle.small_card.proofs.ListLemmas.{every_mono, every_push, every_append, every_filter, every_passes, every_map, every_all, pair_push, pair_append, pair_both, pair_filter, pair_map, length_filter, length_parts}
+use Rattle.small_card.proofs.ListLemmas.{every_mono, every_push, every_append, every_filter, every_map, every_all, pair_push, pair_filter, length_filter}
+use Rattle.small_card.proofs.ResultLemmas.{marked_few, marked_rising}
 use Rattle.result_store.proofs.Passing.{any_of_none, any_of_some, without_of_none}
 use Rattle.result_store.specs.declared.store.RemoveEnd.{RemoveEnd}
 use Rattle.result_store.specs.declared.store.RemoveEnd.TheVariants.{Absent}
@@ -67,34 +68,16 @@ removed_store seq rs h = record {
   next = h.next;
 }
 
--- of rising numbers one at most is this one
-marks_rise : (seq n : ℕ) (rs : List PackageResult) → EveryPair IsBefore rs → EveryPair IsBefore (map (with_mark n) (filter (has_seq seq) rs))
-marks_rise seq n rs h = pair_map (λ x y. IsBefore x y × (has_seq seq x ≡ true) × (has_seq seq y ≡ true)) IsBefore (with_mark n)
-    (λ x y r. absurd (omega (arith, r.0, eqb-true x.seq seq r.1, eqb-true y.seq seq r.2))) (filter (has_seq seq) rs)
-    (pair_both IsBefore (λ x. has_seq seq x ≡ true) (filter (has_seq seq) rs) (pair_filter IsBefore (has_seq seq) rs h) (every_passes (has_seq seq) rs))
-
--- each of the other results stands before each of the marked ones
-marks_last : (seq n : ℕ) (rs : List PackageResult) → Every (IsGiven n) rs → Every (λ x. Every (IsBefore x) (map (with_mark n) (filter (has_seq seq) rs))) (without (has_seq seq) rs)
-marks_last seq n rs h = every_mono (IsGiven n) (λ x. Every (IsBefore x) (map (with_mark n) (filter (has_seq seq) rs)))
-    (λ x p. every_map (λ y. Unit {0}) (IsBefore x) (with_mark n) (λ y _. p.given) (filter (has_seq seq) rs) (every_all (λ y. Unit {0}) (λ y. tt) (filter (has_seq seq) rs)))
-    (without (has_seq seq) rs) (every_filter (IsGiven n) (λ r. not (has_seq seq r)) rs h)
-
 pub marked_store : (seq : ℕ) (rs : Results) → rs.next ≤ 4294967294 → IsStore rs → IsStore (marked seq rs)
 unfolding marked
-marked_store seq rs room h =
-    let rest : List PackageResult = without (has_seq seq) rs.pending in
-    let marks : List PackageResult = map (with_mark rs.next) (filter (has_seq seq) rs.pending) in
-    record {
-      few =
-          let l : length (rest ++ marks) ≡ length rest + length marks = length-append rest marks in
-          let m : length marks ≡ length (filter (has_seq seq) rs.pending) = length-map (filter (has_seq seq) rs.pending) (with_mark rs.next) in
-          omega (arith, l, m, length_parts (has_seq seq) rs.pending, h.few);
-      each = every_append (IsGiven (rs.next + 1)) rest marks
-          (every_mono (IsGiven rs.next) (IsGiven (rs.next + 1)) (given_later rs.next) rest (every_filter (IsGiven rs.next) (λ r. not (has_seq seq r)) rs.pending h.each))
-          (every_map (λ y. Unit {0}) (IsGiven (rs.next + 1)) (with_mark rs.next) (λ y _. record { some = h.next.some; given = omega arith }) (filter (has_seq seq) rs.pending) (every_all (λ y. Unit {0}) (λ y. tt) (filter (has_seq seq) rs.pending)));
-      rising = pair_append IsBefore rest marks (pair_filter IsBefore (λ r. not (has_seq seq r)) rs.pending h.rising) (marks_rise seq rs.next rs.pending h.rising) (marks_last seq rs.next rs.pending h.each);
-      next = record { some = omega arith; fits = omega (arith, room) };
-    }
+marked_store seq rs room h = record {
+  few = marked_few seq rs.next 8 rs.pending h.few;
+  each = every_append (IsGiven (rs.next + 1)) (without (has_seq seq) rs.pending) (map (with_mark rs.next) (filter (has_seq seq) rs.pending))
+      (every_mono (IsGiven rs.next) (IsGiven (rs.next + 1)) (given_later rs.next) (without (has_seq seq) rs.pending) (every_filter (IsGiven rs.next) (λ r. not (has_seq seq r)) rs.pending h.each))
+      (every_map (λ y. Unit {0}) (IsGiven (rs.next + 1)) (with_mark rs.next) (λ y _. record { some = h.next.some; given = omega arith }) (filter (has_seq seq) rs.pending) (every_all (λ y. Unit {0}) (λ y. tt) (filter (has_seq seq) rs.pending)));
+  rising = marked_rising (IsGiven rs.next) seq rs.next (λ x p. p.given) rs.pending h.rising h.each;
+  next = record { some = omega arith; fits = omega (arith, room) };
+}
 
 pub passed_store : (rs : Results) → rs.next ≤ 4294967294 → IsStore rs → IsStore (passed rs)
 unfolding passed

@@ -3,15 +3,12 @@ use Rattle.std.proofs.Common.{◌≡◌, ℕ, ◌+◌, ◌≤◌, ◌<◌, suc, 
 use Rattle.std.specs.List.{filter, list_any, position_or_len, slice_get}
 use Rattle.std.specs.Prelude.{position, nat_lt}
 use Rattle.std.proofs.lemmas.Bool.{ltb-false, ne_eqb, eqb-true}
-use Rattle.small_card.specs.Lists.{Every, EveryPair, without}
+use Rattle.small_card.specs.Lists.{EveryPair, without}
 use Rattle.small_card.specs.Ranges.{IsBefore}
 use Rattle.small_card.specs.Units.{has_seq}
 use Rattle.small_card.specs.declared.types.PackageResult.{PackageResult}
 use Rattle.small_card.proofs.ListLemmas.{every_mono, pair_mono}
-
-pub filter_none : {X : Type 0} (t : X → Bool) (xs : List X) → Every (λ x. t x ≡ false) xs → filter t xs ≡ []
-filter_none t [] h = refl
-filter_none t (x ∷ xs) h = ap (λ b. cond b (x ∷ filter t xs) (filter t xs)) h.0 ∙ filter_none t xs h.1
+use Rattle.small_card.proofs.Pending.{filter_none}
 
 filter_past : {X : Type 0} (t : X → Bool) (xs : List X) → length xs ≤ position_or_len t xs → filter t xs ≡ []
 filter_past t [] h = refl

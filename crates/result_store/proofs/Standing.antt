@@ -10,6 +10,7 @@ use Rattle.small_card.specs.Packages.{with_result}
 use Rattle.small_card.specs.Units.{has_seq, without_result, with_mark, marked}
 use Rattle.small_card.specs.declared.types.Item.{Item}
 use Rattle.small_card.specs.declared.types.PackageResult.{PackageResult}
+use Rattle.std.proofs.lemmas.Option.{same_Some}
 use Rattle.result_store.specs.Stores.{numbered, passed}
 use Rattle.result_store.specs.Calls.{Call, put, remove, mark_rolled, pass_number, after_call, after_calls, touched, stands, IsUntouched}
 use Rattle.result_store.specs.Laws.{IsSameResult, WasRemoved, WasPut, ComesFrom}
@@ -63,9 +64,6 @@ map_contains f (y ∷ ys) z h = elim (contains_case (f y) z (map f ys) h) [
   | inr k ↦ let r = map_contains f ys z k in (r.0, contains_there y r.0 ys r.1, r.2)
 ]
 
-some_is : {X : Type 0} (x y : X) → Some x ≡ Some y → x ≡ y
-some_is x y e = cc
-
 not_none : {X : Type 0} (x : X) → Some x ≡ None → ⊥
 not_none x e = absurd (cc)
 
@@ -80,26 +78,26 @@ contains_touched : (rs : Results) (c : Call) (r q : PackageResult) → Contains 
 unfolding touched with_result without_result marked passed
 contains_touched rs (put eim association counter items) r q h e =
     let more : List PackageResult = numbered rs.next eim association counter items ∷ [] in
-    subst (λ z. Contains (rs.pending ++ more) z) (some_is r q e) (Contains-append_left rs.pending more r h)
+    subst (λ z. Contains (rs.pending ++ more) z) (same_Some r q e) (Contains-append_left rs.pending more r h)
 contains_touched rs (remove seq) r q h e =
     elim (has_seq seq r) as (λ b. has_seq seq r ≡ b → cond {A = Option PackageResult} b None (Some r) ≡ Some q → Contains (without (has_seq seq) rs.pending) q) [
       | true ↦ λ t k. absurd (not_none q (sym k))
-      | false ↦ λ t k. subst (λ z. Contains (without (has_seq seq) rs.pending) z) (some_is r q k) (contains_filter (λ x. not (has_seq seq x)) rs.pending r h (ap not t))
+      | false ↦ λ t k. subst (λ z. Contains (without (has_seq seq) rs.pending) z) (same_Some r q k) (contains_filter (λ x. not (has_seq seq x)) rs.pending r h (ap not t))
     ] refl e
 contains_touched rs (mark_rolled seq) r q h e =
     let rest : List PackageResult = without (has_seq seq) rs.pending in
     let marks : List PackageResult = map (with_mark rs.next) (filter (has_seq seq) rs.pending) in
     elim (has_seq seq r) as (λ b. has_seq seq r ≡ b → cond {A = Option PackageResult} b (Some (with_mark rs.next r)) (Some r) ≡ Some q → Contains (rest ++ marks) q) [
-      | true ↦ λ t k. subst (λ z. Contains (rest ++ marks) z) (some_is (with_mark rs.next r) q k)
+      | true ↦ λ t k. subst (λ z. Contains (rest ++ marks) z) (same_Some (with_mark rs.next r) q k)
           (Contains-append_right rest marks (with_mark rs.next r) (contains_map (with_mark rs.next) (filter (has_seq seq) rs.pending) r (contains_filter (has_seq seq) rs.pending r h t)))
-      | false ↦ λ t k. subst (λ z. Contains (rest ++ marks) z) (some_is r q k)
+      | false ↦ λ t k. subst (λ z. Contains (rest ++ marks) z) (same_Some r q k)
           (Contains-append_left rest marks r (contains_filter (λ x. not (has_seq seq x)) rs.pending r h (ap not t)))
     ] refl e
-contains_touched rs pass_number r q h e = subst (λ z. Contains rs.pending z) (some_is r q e) h
+contains_touched rs pass_number r q h e = subst (λ z. Contains rs.pending z) (same_Some r q e) h
 
 pub result_stays : (rs : Results) (cs : List Call) (r q : PackageResult) → Contains rs.pending r → stands rs cs (Some r) ≡ Some q → Contains (after_calls rs cs).pending q
 unfolding stands after_calls
-result_stays rs [] r q h e = subst (λ z. Contains rs.pending z) (some_is r q e) h
+result_stays rs [] r q h e = subst (λ z. Contains rs.pending z) (same_Some r q e) h
 result_stays rs (c ∷ cs) r q h e =
     elim (touched rs.next r c) as (λ o. touched rs.next r c ≡ o → stands (after_call rs c) cs o ≡ Some q → Contains (after_calls (after_call rs c) cs).pending q) [
       | None ↦ λ t k. absurd (not_none q (sym k ∙ stands_none (after_call rs c) cs))
@@ -143,22 +141,22 @@ gets_mark n r z l e = subst (λ (w : PackageResult). SameStep (n + 1) r w) e
 
 same_step : (rs : Results) (c : Call) (r z : PackageResult) → r.seq < rs.next → touched rs.next r c ≡ Some z → SameStep (after_call rs c).next r z
 unfolding touched with_result without_result marked passed
-same_step rs (put eim association counter items) r z l e = stays_given rs.next (rs.next + 1) r z l (omega arith) (some_is r z e)
+same_step rs (put eim association counter items) r z l e = stays_given rs.next (rs.next + 1) r z l (omega arith) (same_Some r z e)
 same_step rs (remove seq) r z l e =
     elim (has_seq seq r) as (λ b. cond {A = Option PackageResult} b None (Some r) ≡ Some z → SameStep rs.next r z) [
       | true ↦ λ k. absurd (not_none z (sym k))
-      | false ↦ λ k. stays_given rs.next rs.next r z l (omega arith) (some_is r z k)
+      | false ↦ λ k. stays_given rs.next rs.next r z l (omega arith) (same_Some r z k)
     ] e
 same_step rs (mark_rolled seq) r z l e =
     elim (has_seq seq r) as (λ b. cond {A = Option PackageResult} b (Some (with_mark rs.next r)) (Some r) ≡ Some z → SameStep (rs.next + 1) r z) [
-      | true ↦ λ k. gets_mark rs.next r z l (some_is (with_mark rs.next r) z k)
-      | false ↦ λ k. stays_given rs.next (rs.next + 1) r z l (omega arith) (some_is r z k)
+      | true ↦ λ k. gets_mark rs.next r z l (same_Some (with_mark rs.next r) z k)
+      | false ↦ λ k. stays_given rs.next (rs.next + 1) r z l (omega arith) (same_Some r z k)
     ] e
-same_step rs pass_number r z l e = stays_given rs.next (rs.next + 1) r z l (omega arith) (some_is r z e)
+same_step rs pass_number r z l e = stays_given rs.next (rs.next + 1) r z l (omega arith) (same_Some r z e)
 
 pub result_same : (rs : Results) (cs : List Call) (r q : PackageResult) → r.seq < rs.next → stands rs cs (Some r) ≡ Some q → IsSameResult r q
 unfolding stands
-result_same rs [] r q l e = subst (λ (z : PackageResult). IsSameResult r z) (some_is r q e) (same_self r)
+result_same rs [] r q l e = subst (λ (z : PackageResult). IsSameResult r z) (same_Some r q e) (same_self r)
 result_same rs (c ∷ cs) r q l e =
     elim (touched rs.next r c) as (λ o. touched rs.next r c ≡ o → stands (after_call rs c) cs o ≡ Some q → IsSameResult r q) [
       | None ↦ λ t k. absurd (not_none q (sym k ∙ stands_none (after_call rs c) cs))

@@ -1,7 +1,7 @@
 -- Enabling the former profile leaves it alone enabled, whatever was enabled before.
-use Rattle.std.proofs.Common.{◌≡◌, ◌≢◌, ℕ, Bool, true, false, not, ◌&&◌, List, [], ◌∷◌, map, refl, ◌∙◌, ap, sym, subst, inl, inr, None}
+use Rattle.std.proofs.Common.{◌≡◌, ◌≢◌, ℕ, true, false, not, ◌&&◌, List, [], ◌∷◌, map, refl, ◌∙◌, ap, sym, subst, inl, inr, None}
 use Rattle.std.specs.List.{list_any}
-use Rattle.std.proofs.lemmas.Bool.{cond_both, or_cases, and_parts, not-true, both_ways}
+use Rattle.std.proofs.lemmas.Bool.{cond_both, or_cases, and_parts, not-true, both_ways, false_from_ne_true}
 use Rattle.small_card.specs.Lists.{Every, EveryPair}
 use Rattle.small_card.specs.Laws.{IsAlone}
 use Rattle.small_card.specs.Profiles.{is_iccid, has_profile, is_enabled, with_state, enabled_alone, do_psmo}
@@ -10,15 +10,12 @@ use Rattle.small_card.specs.declared.types.Profile.{Profile}
 use Rattle.small_card.specs.declared.types.Psmo.TheVariants as psmo
 use Rattle.small_card.specs.declared.types.Item.{Item}
 use Rattle.small_card.specs.declared.types.Item.TheVariants as item
-use Rattle.small_card.proofs.ListLemmas.{same_yes, every_mono, every_map, every_all, any_every, any_map}
+use Rattle.small_card.proofs.ListLemmas.{same_yes, every_mono, any_every}
+use Rattle.small_card.proofs.Restoring.{alone}
 
 -- the profile, enabled exactly where it has this ICCID
 abbrev alone_of : List ℕ → Profile → Profile
 alone_of iccid p = with_state (is_iccid iccid p) p
-
-never_true : (b : Bool) → (b ≡ true → ⊥) → b ≡ false
-never_true true f = absurd (f refl)
-never_true false f = refl
 
 stays_on : (iccid : List ℕ) (p : Profile) → is_iccid iccid p && p.enabled ≡ true → alone_of iccid p ≡ p
 stays_on iccid p e =
@@ -27,7 +24,7 @@ stays_on iccid p e =
 
 stays_off : (iccid : List ℕ) (p : Profile) → p.iccid ≢ iccid → p.enabled ≢ true → alone_of iccid p ≡ p
 stays_off iccid p other off =
-    ap (λ b. with_state b p) (never_true (is_iccid iccid p) (λ e. other (sym (same_yes iccid p.iccid e))) ∙ sym (never_true p.enabled off))
+    ap (λ b. with_state b p) (false_from_ne_true (is_iccid iccid p) (λ e. other (sym (same_yes iccid p.iccid e))) ∙ sym (false_from_ne_true p.enabled off))
 
 -- beside an enabled profile of this ICCID another one is off
 off_after : (iccid : List ℕ) (p q : Profile) → is_iccid iccid p && p.enabled ≡ true → AreApart p q → alone_of iccid q ≡ q
@@ -70,17 +67,6 @@ one_enable iccid ps h there =
 pub enable_leaves : (iccid : List ℕ) (ps left : List Profile) (code : ℕ) → IsTable ps → has_profile iccid ps ≡ true → (left, item.Enable code) ≡ do_psmo None [] ps (psmo.Enable iccid false) → left ≡ enabled_alone iccid ps
 enable_leaves iccid ps left code h there e = ap (λ (r : List Profile × Item). r.0) e ∙ one_enable iccid ps h there
 
-twice : (b : Bool) → b && b ≡ b
-twice true = refl
-twice false = refl
-
-is_alone : (iccid : List ℕ) (ps : List Profile) → has_profile iccid ps ≡ true → IsAlone iccid (enabled_alone iccid ps)
-unfolding is_enabled enabled_alone has_profile
-is_alone iccid ps h = record {
-  enabled = any_map (λ p. is_iccid iccid p && p.enabled) (is_iccid iccid) (alone_of iccid) (λ p. twice (is_iccid iccid p)) ps ∙ h;
-  others = every_map (λ p. Unit {0}) (λ p. p.enabled ≡ true → p.iccid ≡ iccid) (alone_of iccid) (λ p _ e. sym (same_yes iccid p.iccid e)) ps (every_all (λ p. Unit {0}) (λ p. tt) ps);
-}
-
 -- this profile is enabled, and no other
 pub left_alone : (iccid : List ℕ) (ps left : List Profile) → has_profile iccid ps ≡ true → left ≡ enabled_alone iccid ps → IsAlone iccid left
-left_alone iccid ps left h e = subst (IsAlone iccid) (sym e) (is_alone iccid ps h)
+left_alone iccid ps left h e = subst (IsAlone iccid) (sym e) (alone iccid ps h)

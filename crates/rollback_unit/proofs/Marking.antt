@@ -8,7 +8,8 @@ use Rattle.small_card.specs.Lists.{EveryPair, without}
 use Rattle.small_card.specs.Units.{has_seq, is_pending, with_mark, marked}
 use Rattle.small_card.proofs.ListLemmas.{every_mono}
 use Rattle.result_store.specs.Stores.{IsStore}
-use Rattle.result_store.proofs.Passing.{filter_none, rising_one}
+use Rattle.result_store.proofs.Passing.{rising_one}
+use Rattle.small_card.proofs.Pending.{filter_none}
 use Rattle.rollback_unit.specs.Rolls.{IsMarkedLast}
 
 -- one element passes the test

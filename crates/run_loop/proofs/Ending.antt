@@ -1,5 +1,5 @@
 -- The turns of a run, and how it ends.
-use Rattle.std.proofs.Common.{◌≡◌, ℕ, ◌+◌, ◌<◌, ◌≤◌, inl, inr, Bool, true, false, List, [], ◌∷◌, ◌++◌, length, Option, Some, Result, Ok, Err, refl, sym, subst, ◌∙◌, length-append, arith}
+use Rattle.std.proofs.Common.{◌≡◌, ℕ, ◌+◌, ◌<◌, ◌≤◌, Bool, true, false, List, [], ◌∷◌, ◌++◌, length, Option, Some, Result, Ok, Err, refl, sym, subst, ◌∙◌, length-append, arith}
 use Rattle.iot_bytes.specs.Causes.{Rose}
 use Rattle.iot_bytes.specs.Frames.{frame, IsLeft}
 use Rattle.iot_bytes.specs.declared.frame.TheConstants.{FRAME_HEAD_LEN}
@@ -18,7 +18,8 @@ use Rattle.run_loop.specs.Sends.{HasSent, HasSentInto, Closes, Closed}
 use Rattle.run_loop.specs.Status.{read_status, part_status, halt_status, has_record}
 use Rattle.run_loop.specs.Parts.{Walk, Stopping}
 use Rattle.run_loop.specs.Runs.{Progress, Halted, IsNumbered, SentBefore, SentFor, Ended, IsUnopened, record_behind}
-use Rattle.run_loop.proofs.Going.{sent-more, sent-into, sent-none, taken-more, taken-none, rose-since, rose-until}
+use Rattle.run_loop.proofs.Causes.{last_causes, more_causes, no_causes}
+use Rattle.run_loop.proofs.Going.{sent-more, sent-into, sent-none, taken-more, taken-none}
 
 -- no frame was answered yet
 pub at_first : (walk : Walk) (e : Edge) → walk [] [] → Progress walk e e 0
@@ -29,7 +30,7 @@ at_first walk e begins = record {
   stands = begins;
   taken = taken-none e.rest;
   sent = sent-none e.sent;
-  causes = record { read_later = omega arith; write_later = omega arith; read = λ no. absurd no; write = λ no. absurd no };
+  causes = no_causes e;
 }
 
 -- a frame was answered, and its answer was sent
@@ -44,12 +45,7 @@ answered walk next old before now count f content p did taken sent read_later wr
   stands = did p.frames p.text p.stands;
   taken = taken-more old.rest before.rest now.rest p.frames f p.taken taken;
   sent = sent-more old.sent before.sent now.sent p.text (frame content) p.sent sent;
-  causes = record {
-    read_later = omega (arith, p.causes.read_later, read_later);
-    write_later = omega (arith, p.causes.write_later, write_later);
-    read = λ no. absurd no;
-    write = λ no. absurd no;
-  };
+  causes = more_causes old before now p.causes read_later write_later (λ no. absurd no) (λ no. absurd no);
 }
 
 -- no octet was taken
@@ -73,12 +69,7 @@ read_no_more walk stops old before now count stop few p none same read_later wri
         (tail, parts, short, subst (λ (n : ℕ). NoFrame n tail now.rest stop) (sym p.counted) (none tail at)),
   );
   sent = λ sent0 is. same ∙ p.sent sent0 is;
-  causes = record {
-    read_later = omega (arith, p.causes.read_later, read_later);
-    write_later = omega (arith, p.causes.write_later, write_later);
-    read = λ at. let fault : stop ≡ reading.Fault = cc in rose-since old.read_faults before.read_faults now.read_faults p.causes.read_later (rose fault);
-    write = λ at. absurd cc;
-  };
+  causes = more_causes old before now p.causes read_later write_later (λ at. let fault : stop ≡ reading.Fault = cc in rose fault) (λ at. absurd cc);
 }
 
 -- the part stops at a frame
@@ -100,12 +91,7 @@ answer_no_more walk next stops old before now count f stop few p did taken same 
     omega (arith, few, p.counted),
   );
   sent = λ sent0 is. same ∙ p.sent sent0 is;
-  causes = record {
-    read_later = omega (arith, p.causes.read_later, read_later);
-    write_later = omega (arith, p.causes.write_later, write_later);
-    read = λ at. absurd cc;
-    write = λ at. absurd cc;
-  };
+  causes = more_causes old before now p.causes read_later write_later (λ at. absurd cc) (λ at. absurd cc);
 }
 
 -- the answer to a frame wasn't sent whole
@@ -120,12 +106,7 @@ cut_short walk next stops old before now count f content few p did taken sent re
   numbered = omega (arith, length-append p.frames (f ∷ []), p.counted);
   reason = (did p.frames p.text p.stands, taken-more old.rest before.rest now.rest p.frames f p.taken taken);
   sent = record { before = p.text; content = content; parts = refl; sent = sent-into old.sent before.sent now.sent p.text content p.sent sent };
-  causes = record {
-    read_later = omega (arith, p.causes.read_later, read_later);
-    write_later = omega (arith, p.causes.write_later, write_later);
-    read = λ at. absurd cc;
-    write = λ at. rose-since old.write_faults before.write_faults now.write_faults p.causes.write_later rose;
-  };
+  causes = more_causes old before now p.causes read_later write_later (λ at. absurd cc) (λ at. rose);
 }
 
 -- the frame that closes a run was sent behind a text, or not whole
@@ -163,15 +144,7 @@ ended behind stops old rest reads sent sent' writes writes' number halt closing 
   few = h.few;
   reason = h.reason;
   sent = sent_for old.sent sent sent' h.frames h.text number halt closing h.numbered h.sent did;
-  causes = record {
-    read_later = h.causes.read_later;
-    write_later = omega (arith, h.causes.write_later, later);
-    read = h.causes.read;
-    write = λ at. elim at [
-      | inl failed ↦ rose-until old.write_faults writes writes' (h.causes.write failed) later
-      | inr failed ↦ rose-since old.write_faults writes writes' h.causes.write_later (rose failed)
-    ];
-  };
+  causes = last_causes old (edge rest reads sent writes) (edge rest reads sent' writes') h.causes refl later rose (λ at. at) (λ at. at);
 }
 
 -- before the first frame

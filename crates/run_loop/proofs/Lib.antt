@@ -1,4 +1,5 @@
 pub mod Going
+pub mod Causes
 pub mod Ending
 pub mod Mapping
 pub mod StopRecord

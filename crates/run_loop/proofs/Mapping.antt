@@ -62,3 +62,18 @@ status_three (Answering answering.NoMemory) (Ok done) e = absurd cc
 status_three Sending (Ok done) e = inl refl
 status_three halt (Err sending.Fault) e = inr refl
 status_three halt (Err sending.NoMemory) e = absurd cc
+
+-- no end has status 1
+pub not_one : (halt : Halt) (closing : Result (Unit {0}) SendStop) → exit_status halt closing ≡ 1 → ⊥
+not_one (Reading reading.End) (Ok done) e = absurd cc
+not_one (Reading reading.Fault) (Ok done) e = absurd cc
+not_one (Reading reading.Torn) (Ok done) e = absurd cc
+not_one (Reading reading.Limit) (Ok done) e = absurd cc
+not_one (Reading reading.NoMemory) (Ok done) e = absurd cc
+not_one (Answering answering.ChipFault) (Ok done) e = absurd cc
+not_one (Answering answering.Malformed) (Ok done) e = absurd cc
+not_one (Answering answering.Unrecognised) (Ok done) e = absurd cc
+not_one (Answering answering.NoMemory) (Ok done) e = absurd cc
+not_one Sending (Ok done) e = absurd cc
+not_one halt (Err sending.Fault) e = absurd cc
+not_one halt (Err sending.NoMemory) e = absurd cc

@@ -91,7 +91,8 @@ impl PartStop {
 }
 
 impl SendStop {
-    fn status(self) -> u8
+    /// The exit status where the last frame or text isn't sent whole.
+    pub fn status(self) -> u8
         ensures { result ≡ send_status self }
     {
         match self {

@@ -85,15 +85,15 @@ has_past ls input tail left taken (inr (count, one)) = record {
   past = inr count;
 }
 
-ended_past : (ls : List (List ℕ)) (input tail : List ℕ) (left sent0 sent : Option (List ℕ)) → AreTaken ls input tail → AreHandled ls → IsTooLong tail left ⊎ ((length ls ≡ MOST_LINES) × HasLine tail left) → HasSent sent0 sent (stop_line 7 (length ls + 1)) → HasEnded 7 input sent0 sent
+ended_past : (ls : List (List ℕ)) (input tail : List ℕ) (left sent0 sent : Option (List ℕ)) → AreTaken ls input tail → AreHandled ls → IsTooLong tail left ⊎ ((length ls ≡ MOST_LINES) × HasLine tail left) → HasSent sent0 sent (stop_line 7 (length ls + 1)) → HasEnded 7 input [] sent0 sent
 ended_past ls input tail left sent0 sent taken handled at line =
     let h = has_past ls input tail left taken at in
-    record { lines = ls; more = h.more; parts = h.parts; handled = handled; outcome = with_seven 7 ls h.more sent0 sent refl h.past line }
+    record { lines = ls; more = h.more; parts = h.parts; handled = handled; outcome = with_seven 7 ls h.more [] sent0 sent refl h.past line }
 
 -- how a check ended where neither the source nor the sink failed
 halted : (rest0 rest sent0 sent : Option (List ℕ)) (input : List ℕ) (ls : List (List ℕ)) (text closing : List ℕ) (halt : Halt) (ended : Result (Unit {0}) SendStop) → rest0 ≡ Some input → length ls ≤ MOST_LINES → Reason AreChecked StopsCheck rest0 rest ls text halt
     → Concludes EndsCheck ls text closing halt → SentFor sent0 sent (length ls) text closing halt ended → (halt ≡ Reading reading.Fault → ⊥) → (halt ≡ Sending → ⊥) → (ended ≡ Err sending.Fault → ⊥)
-    → (exit_status halt ended ≡ 6) ⊎ HasEnded (exit_status halt ended) input sent0 sent
+    → (exit_status halt ended ≡ 6) ⊎ HasEnded (exit_status halt ended) input [] sent0 sent
 halted rest0 rest sent0 sent input ls text closing halt (Err sending.Fault) told few r c s no_read no_write no_last = absurd (no_last refl)
 halted rest0 rest sent0 sent input ls text closing halt (Err sending.NoMemory) told few r c s no_read no_write no_last = inl refl
 halted rest0 rest sent0 sent input ls text closing (Reading reading.End) (Ok done) told few r c s no_read no_write no_last =
@@ -103,7 +103,7 @@ halted rest0 rest sent0 sent input ls text closing (Reading reading.End) (Ok don
       more = [];
       parts = all_lines ls input tail taken at.0;
       handled = are_handled ls text input tail few taken r.0;
-      outcome = with_zero 0 ls sent0 sent refl c.0;
+      outcome = with_zero 0 ls [] sent0 sent refl c.0;
     })
 halted rest0 rest sent0 sent input ls text closing (Reading reading.Fault) (Ok done) told few r c s no_read no_write no_last = absurd (no_read refl)
 halted rest0 rest sent0 sent input ls text closing (Reading reading.Limit) (Ok done) told few r c s no_read no_write no_last =
@@ -119,7 +119,7 @@ halted rest0 rest sent0 sent input ls text closing (Handling handling.Malformed)
       more = l ∷ lines_of behind;
       parts = lines_first ls input tail taken ∙ ap (λ (z : List (List ℕ)). ls ++ z) (line_first l tail behind here);
       handled = are_handled ls text input tail few taken stops.0;
-      outcome = with_five 5 ls (l ∷ lines_of behind) sent0 sent refl (here.short, less, stops.1) (alone sent0 sent text (stop_line 5 (length ls + 1)) stops.0.silent s);
+      outcome = with_five 5 ls (l ∷ lines_of behind) [] sent0 sent refl (here.short, less, stops.1) (alone sent0 sent text (stop_line 5 (length ls + 1)) stops.0.silent s);
     })
 halted rest0 rest sent0 sent input ls text closing (Handling handling.Limit) (Ok done) told few r c s no_read no_write no_last = absurd r.1
 halted rest0 rest sent0 sent input ls text closing (Handling handling.Unrecognised) (Ok done) told few r c s no_read no_write no_last = absurd r.1
@@ -131,16 +131,16 @@ halted rest0 rest sent0 sent input ls text closing (Ending ending.Missing) (Ok d
       more = [];
       parts = all_lines ls input tail taken at.0;
       handled = are_handled ls text input tail few taken r.0;
-      outcome = with_five 5 ls [] sent0 sent refl c (alone sent0 sent text (stop_line 5 (length ls + 1)) r.0.silent s);
+      outcome = with_five 5 ls [] [] sent0 sent refl c (alone sent0 sent text (stop_line 5 (length ls + 1)) r.0.silent s);
     })
 halted rest0 rest sent0 sent input ls text closing (Ending ending.NoMemory) (Ok done) told few r c s no_read no_write no_last = inl refl
 halted rest0 rest sent0 sent input ls text closing Sending (Ok done) told few r c s no_read no_write no_last = absurd (no_write refl)
 
-pub has_ended : (status : ℕ) (old new : Edge) (input : List ℕ) → Checked status old new → old.rest ≡ Some input → (Rose old.read_faults new.read_faults → ⊥) → (Rose old.write_faults new.write_faults → ⊥) → (status ≡ 6) ⊎ HasEnded status input old.sent new.sent
+pub has_ended : (status : ℕ) (old new : Edge) (input : List ℕ) → Checked status old new → old.rest ≡ Some input → (Rose old.read_faults new.read_faults → ⊥) → (Rose old.write_faults new.write_faults → ⊥) → (status ≡ 6) ⊎ HasEnded status input [] old.sent new.sent
 has_ended status old new input s told no_read no_write =
     let e = s.ended in
     let causes = e.causes in
-    subst (λ (n : ℕ). (n ≡ 6) ⊎ HasEnded n input old.sent new.sent) (sym s.says)
+    subst (λ (n : ℕ). (n ≡ 6) ⊎ HasEnded n input [] old.sent new.sent) (sym s.says)
     (halted old.rest new.rest old.sent new.sent input e.lines e.text e.closing s.end.halt s.end.closing told e.few e.reason e.concludes e.sent
     (λ at. no_read (causes.read at)) (λ at. no_write (causes.write (inl at))) (λ at. no_write (causes.write (inr at))))
 

@@ -19,9 +19,6 @@ all_front : {X : Type 0} (P : X → Type 0) (xs ys : List X) → AllByRecursion 
 all_front P [] ys all = tt
 all_front P (x ∷ xs) ys all = (all.0, all_front P xs ys all.1)
 
-pub short_push : (ls : List (List ℕ)) (l : List ℕ) → AllByRecursion IsShort ls → IsShort l → AllByRecursion IsShort (ls ++ l ∷ [])
-short_push ls l all p = all_push IsShort ls l all p
-
 pub short_last : (ls : List (List ℕ)) (l : List ℕ) → AllByRecursion IsShort (ls ++ l ∷ []) → IsShort l
 short_last ls l all = all_last IsShort ls l all
 

@@ -2,11 +2,12 @@
 use Rattle.std.proofs.Common.{◌≡◌, ℕ, suc, ◌+◌, ◌%◌, ◌≤◌, Bool, true, false, cond, ltb, eqb, List, [], ◌∷◌, ◌++◌, length, take, drop, Result, Ok, Err, refl, ap, subst, ◌∙◌, arith, append_assoc, length-append, sym}
 use Rattle.std.proofs.lemmas.Bool.{ltb-false, le-ltb, eqb-false, ne_eqb}
 use Rattle.std.proofs.lemmas.List.{append-nil, take_at, drop_at, take-append-drop, length-take-le}
+use Rattle.iot_bytes.proofs.Framing.{IsBytes}
 use Rattle.sgp_der.specs.declared.element.DerFault.{DerFault}
 use Rattle.sgp_der.specs.declared.element.DerFault.TheVariants.{Short, Tag}
 use Rattle.sgp_der.specs.Element.{len_octets, element, IsTag, Tlv, Begins, SameElement}
 use Rattle.sgp_der.specs.Reading.{◌>>=◌, Part, len_at, element_at}
-use Rattle.sgp_der.proofs.Lengths.{IsBytes, len_again, len_takes, len_few}
+use Rattle.sgp_der.proofs.Lengths.{len_again, len_takes, len_few}
 use Rattle.sgp_der.specs.declared.form.TheConstants.{MOST_CONTENT}
 
 -- the value of a step that did not fail

@@ -4,10 +4,10 @@ use Rattle.std.proofs.lemmas.Bool.{eqb-true, eq-eqb}
 use Rattle.std.proofs.lemmas.List.{append-nil, get_or_append_left, get_or-append-add, get_or_past}
 use Rattle.std.proofs.lemmas.Bool.{cases_lt}
 use Rattle.std.proofs.Common.{inl, inr}
+use Rattle.iot_bytes.proofs.Framing.{IsBytes}
 use Rattle.sgp_der.specs.declared.element.DerFault.{DerFault}
 use Rattle.sgp_der.specs.Element.{element, len_octets, IsTag}
 use Rattle.sgp_der.specs.Reading.{Part, element_at}
-use Rattle.sgp_der.proofs.Lengths.{IsBytes}
 use Rattle.sgp_der.proofs.Elements.{element_takes, element_again}
 use Rattle.sgp_der.specs.Fields.{◌>>=◌, part_of, part_at, tagged, field_at, ended, only_at}
 use Rattle.sgp_der.specs.declared.form.TheConstants.{MOST_CONTENT}

@@ -1,13 +1,10 @@
 -- A length that is read was spelled so, and one that is spelled is read again.
-use Rattle.std.proofs.Common.{◌≡◌, ℕ, ◌<◌, ◌≤◌, List, [], ◌∷◌, ◌++◌, get_or, length, Ok, arith}
+use Rattle.std.proofs.Common.{◌≡◌, ℕ, ◌<◌, ◌≤◌, List, [], ◌∷◌, ◌++◌, length, Ok, arith}
 use Rattle.std.proofs.lemmas.Bool.Decides.{nat_tests}
+use Rattle.iot_bytes.proofs.Framing.{IsBytes}
 use Rattle.sgp_der.specs.Element.{len_octets}
 use Rattle.sgp_der.specs.Reading.{len_at, one_at, two_at, three_at}
 use Rattle.sgp_der.specs.declared.form.TheConstants.{MOST_CONTENT}
-
--- each is an octet
-abbrev pub IsBytes : List ℕ → Type 0
-IsBytes bytes = (i : ℕ) → get_or bytes i 0 < 256
 
 pub len_again : (n : ℕ) (tail : List ℕ) → n ≤ MOST_CONTENT → len_at (len_octets n ++ tail) ≡ Ok (n, tail)
 unfolding len_at len_octets

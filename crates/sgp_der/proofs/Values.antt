@@ -3,11 +3,11 @@ use Rattle.std.proofs.Common.{◌≡◌, ℕ, zero, suc, ◌+◌, ◌*◌, ◌/�
 use Rattle.std.proofs.lemmas.Bool.{le-ltb, lt-ltb, cases_lt}
 use Rattle.std.proofs.lemmas.Bool.Decides.{nat_tests}
 use Rattle.std.proofs.lemmas.List.{append-nil}
-use Rattle.std.proofs.lemmas.Int.Digits.{digits_of_step, number_digits_of, first_digits_of, all_below_base_digits_of, length-digits_of-le}
+use Rattle.std.proofs.lemmas.Int.Digits.{digits_of_step, number_digits_of, first_digits_of, length-digits_of-le}
 use Rattle.std.proofs.Math.Nat.{pow-le-pow_right}
 use Rattle.std.specs.Int.Digits.{digits_of, AllBelowBase}
+use Rattle.iot_bytes.proofs.Framing.{IsBytes}
 use Rattle.sgp_der.specs.Number.{value_from, IsShortest, IsUint, with_sign, uint, is_shortest, below_limit, uint_of}
-use Rattle.sgp_der.proofs.Lengths.{IsBytes}
 
 -- the test says what the relation says
 pub shortest_true : (content : List ℕ) → is_shortest content ≡ true → IsShortest content
@@ -112,22 +112,6 @@ pub below_bytes : (ds : List ℕ) → AllBelowBase 256 ds → IsBytes ds
 below_bytes [] all i = omega arith
 below_bytes (d ∷ ds) all zero = all.0
 below_bytes (d ∷ ds) all (suc i) = below_bytes ds all.1 i
-
-zero_bytes : (ds : List ℕ) → IsBytes ds → IsBytes (0 ∷ ds)
-zero_bytes ds fits zero = omega arith
-zero_bytes ds fits (suc i) = fits i
-
-signed_bytes : (ds : List ℕ) → IsBytes ds → IsBytes (with_sign ds)
-signed_bytes [] fits = zero_bytes [] fits
-signed_bytes (d ∷ ds) fits =
-    elim (cases_lt d 128) [
-      | inl low ↦ rw (lt-ltb d 128 low) fits
-      | inr high ↦ rw (le-ltb d 128 high) (zero_bytes (d ∷ ds) fits)
-    ]
-
-pub uint_bytes : (n : ℕ) → IsBytes (uint n)
-unfolding uint
-uint_bytes n = signed_bytes (digits_of 256 n) (below_bytes (digits_of 256 n) (all_below_base_digits_of 256 n (omega arith)))
 
 -- the reading word, as codecs cite it
 pub uint_takes : (content : List ℕ) (n : ℕ) → IsBytes content → uint_of content ≡ Some n → (content ≡ uint n) × (n < 2 ^ 64)

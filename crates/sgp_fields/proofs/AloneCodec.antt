@@ -1,15 +1,15 @@
 -- Contents that are one number, or that a value is made of.
 use Rattle.std.proofs.Common.{◌≡◌, ℕ, ◌^◌, ◌<◌, List, cond, Option, Some, refl, sym, subst, arith}
 use Rattle.std.specs.Prelude.{◌==◌}
-use Rattle.sgp_der.proofs.Lengths.{IsBytes}
 use Rattle.sgp_der.proofs.Fields.{on_some}
 use Rattle.sgp_der.proofs.Values.{uint_few}
 use Rattle.small_card.specs.Ranges.{IsNumber}
+use Rattle.std.proofs.lemmas.Option.{same_Some}
+use Rattle.iot_bytes.proofs.Framing.{IsBytes}
 use Rattle.sgp_fields.specs.Alone.{made_of, number_alone, number_alone_of}
 use Rattle.sgp_fields.proofs.Codecs.{IsCodec, IsTaken}
 use Rattle.sgp_fields.proofs.Elements.{on_tag, record_codec}
 use Rattle.sgp_fields.proofs.Numbers.{card_number_codec}
-use Rattle.sgp_fields.proofs.Steps.{some_is}
 use Rattle.sgp_fields.proofs.ValueCodecs.{number_codec, IsIn}
 
 -- a content that is one number
@@ -27,7 +27,7 @@ made_taken {X} {Y} {of} {inner} {Inner} {spell} {Fits} codec made tag content y 
     on_some (of content) _ y e (λ x a e1.
     let t = codec.takes content x fits a in
     let here : IsTaken spell Fits tag content (made x) = subst (λ (c : List ℕ). IsTaken spell Fits tag c (made x)) (sym t.0) (each x t.1) in
-    subst (λ (z : Y). IsTaken spell Fits tag content z) (some_is (made x) y e1) here)
+    subst (λ (z : Y). IsTaken spell Fits tag content z) (same_Some (made x) y e1) here)
 
 -- and is made again
 pub made_again : {X Y : Type 0} {of : List ℕ → Option X} {inner : X → List ℕ} {Inner : X → Type 0} → IsCodec of inner Inner → (made : X → Y) (x : X) → Inner x → made_of of made (inner x) ≡ Some (made x)

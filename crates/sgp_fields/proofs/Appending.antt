@@ -1,7 +1,6 @@
 -- Steps of writers: an element whose head was put first, and octets that were written in pieces.
 use Rattle.std.proofs.Common.{◌≡◌, ℕ, ◌+◌, ◌≤◌, List, ◌∷◌, ◌++◌, length, take, sym, ap, ◌∙◌, arith, append_assoc, length-append}
-use Rattle.std.specs.List.{flat_map}
-use Rattle.std.proofs.lemmas.List.{take-take, take_all}
+use Rattle.std.proofs.lemmas.List.{take-take}
 use Rattle.std.proofs.Math.Seq.{take-append_seam}
 use Rattle.iot_bytes.proofs.Appending.{apart}
 use Rattle.sgp_der.specs.Element.{element, len_octets}
@@ -28,7 +27,3 @@ kept_before old more new e =
 -- the length of two pieces
 pub length_both : (xs ys : List ℕ) (n m : ℕ) → length xs ≡ n → length ys ≡ m → n + m ≡ length (xs ++ ys)
 length_both xs ys n m e f = omega (arith, length-append xs ys)
-
--- a list that was gone over to its end
-pub all_over : {X : Type 0} (spell : X → List ℕ) (xs : List X) (i len most : ℕ) → length xs ≤ i → len ≡ length (flat_map spell (take i xs)) → length (flat_map spell xs) ≤ most → len ≤ most
-all_over {X} spell xs i len most end so_far few = omega (arith, so_far ∙ ap (λ (ys : List X). length (flat_map spell ys)) (take_all i xs end))

@@ -4,12 +4,12 @@ use Rattle.std.specs.Prelude.{IfOk, IsErrOf}
 use Rattle.iot_bytes.specs.declared.memory.ReadError.{ReadError}
 use Rattle.iot_bytes.specs.declared.memory.ReadError.TheVariants.{Malformed, NoMemory}
 use Rattle.sgp_der.specs.Fields.{Gives}
-use Rattle.sgp_der.proofs.Lengths.{IsBytes}
 use Rattle.sgp_values.proofs.Octets.{bounds_from_AllPass}
+use Rattle.std.proofs.lemmas.Option.{same_Some}
+use Rattle.iot_bytes.proofs.Framing.{IsBytes}
 use Rattle.sgp_fields.specs.Fields.{Finds}
 use Rattle.sgp_fields.specs.Laws.{ReadsSpelled, ReadAgain}
 use Rattle.sgp_fields.proofs.Codecs.{IsCodec}
-use Rattle.sgp_fields.proofs.Steps.{some_is}
 
 -- what is read is spelled so
 pub found_by : {X : Type 0} {read : List ℕ → Option X} {spell : X → List ℕ} {Fits : X → Type 0} → IsCodec read spell Fits → (bytes : List ℕ) (r : Result X ReadError) → IsBytes bytes → Gives r (read bytes) → IfOk r (λ x. Fits x × (bytes ≡ spell x))
@@ -31,7 +31,7 @@ malformed_by {X} {read} codec bytes r e wrong x fits is =
 
 -- two values with one spelling are the same
 pub one_by : {X : Type 0} {read : List ℕ → Option X} {spell : X → List ℕ} {Fits : X → Type 0} → IsCodec read spell Fits → (a b : X) → Fits a → Fits b → spell a ≡ spell b → a ≡ b
-one_by {X} {read} codec a b g h e = some_is a b (sym (codec.again a g) ∙ ap read e ∙ codec.again b h)
+one_by {X} {read} codec a b g h e = same_Some a b (sym (codec.again a g) ∙ ap read e ∙ codec.again b h)
 
 -- the two laws of reading
 pub reads_spelled : {X : Type 0} {read : List ℕ → Option X} {spell : X → List ℕ} {Fits : X → Type 0} → IsCodec read spell Fits → ReadsSpelled read spell Fits
@@ -49,7 +49,7 @@ found_where codec bytes (Err error) fits e = tt
 
 -- what is spelled so is read
 pub only_where : {X : Type 0} {read : List ℕ → Option X} {spell : X → List ℕ} {Fits : X → Type 0} → IsCodec read spell Fits → (bytes : List ℕ) (r : Result X ReadError) → Finds r (read bytes) → (x : X) → Fits x → bytes ≡ spell x → r ≡ Ok x
-only_where {X} {read} codec bytes (Ok y) e x fits is = ap (λ (z : X). Ok z) (some_is y x (sym e ∙ ap read is ∙ codec.again x fits))
+only_where {X} {read} codec bytes (Ok y) e x fits is = ap (λ (z : X). Ok z) (same_Some y x (sym e ∙ ap read is ∙ codec.again x fits))
 only_where {X} {read} codec bytes (Err error) e x fits is =
     let some : read bytes ≡ Some x = ap read is ∙ codec.again x fits in
     absurd cc

@@ -1,7 +1,7 @@
 -- A value and its spelling: what is read is spelled so, and what is spelled is read again.
 use Rattle.std.proofs.Common.{◌≡◌, ℕ, ◌≤◌, List, ◌++◌, length, Option, Some, IfSome}
 use Rattle.sgp_der.specs.Element.{element, IsTag}
-use Rattle.sgp_der.proofs.Lengths.{IsBytes}
+use Rattle.iot_bytes.proofs.Framing.{IsBytes}
 use Rattle.sgp_fields.specs.Fields.{optional}
 
 -- contents and their values
@@ -27,11 +27,6 @@ pub record IsTaken {X : Type 0} (spell : X → List ℕ) (Fits : X → Type 0) (
 pub record IsListed {X : Type 0} (entry : ℕ → List ℕ → Option X) (spell : X → List ℕ) (Fits : X → Type 0) : Type 0 where
   pub takes : (tag : ℕ) (content : List ℕ) (x : X) → IsBytes content → length content ≤ 16777215 → entry tag content ≡ Some x → IsTaken spell Fits tag content x
   pub again : (x : X) → Fits x → IsSpelled entry spell x
-
--- the same, where no length has to be known
-pub listed : {X : Type 0} {entry : ℕ → List ℕ → Option X} {spell : X → List ℕ} {Fits : X → Type 0} → ((tag : ℕ) (content : List ℕ) (x : X) → IsBytes content → entry tag content ≡ Some x → (element tag content ≡ spell x) × Fits x)
-    → ((x : X) → Fits x → IsSpelled entry spell x) → IsListed entry spell Fits
-listed takes again = record { takes = λ tag content x fits few e. let t = takes tag content x fits e in record { octets = t.0; fits = t.1 }; again = again }
 
 -- the bytes begin with the spelling of a value, and the rest follows
 pub record IsFront {X : Type 0} (spell : X → List ℕ) (Fits : X → Type 0) (bytes : List ℕ) (x : X) (rest : List ℕ) : Type 0 where

@@ -1,12 +1,13 @@
 -- A configuration that is read was spelled so, and one that is spelled is read again.
 use Rattle.std.proofs.Common.{◌≡◌, ℕ, ◌≤◌, List, ◌++◌, length, Some, refl, ap, subst, ◌∙◌, arith, append_assoc, length-append}
 use Rattle.sgp_der.specs.Element.{element}
-use Rattle.sgp_der.proofs.Lengths.{IsBytes}
+use Rattle.std.proofs.lemmas.Option.{same_Some}
+use Rattle.iot_bytes.proofs.Framing.{IsBytes}
 use Rattle.sgp_fields.specs.Config.{config_content, config_of, IsConfig}
 use Rattle.sgp_fields.specs.declared.config.EimConfig.{EimConfig}
 use Rattle.sgp_fields.proofs.Codecs.{IsCodec}
 use Rattle.sgp_fields.proofs.Sizes.{middle}
-use Rattle.sgp_fields.proofs.Steps.{some_is, on_value, on_last, value_again, last_again}
+use Rattle.sgp_fields.proofs.Steps.{on_value, on_last, value_again, last_again}
 use Rattle.sgp_fields.proofs.ValueCodecs.{eim_id_codec, address_codec, key_codec}
 
 -- the fields of a configuration
@@ -21,7 +22,7 @@ config_takes content c fits e =
     on_last key_codec 0x82 left _ c w.others e2 (λ key l e3.
     let whole : content ≡ element 0x80 id ++ (element 0x81 address ++ element 0x82 key) = cc (v.parts, w.parts, l.octets) in
     let grouped : content ≡ element 0x80 id ++ element 0x81 address ++ element 0x82 key = simp append_assoc whole in
-    subst (λ (d : EimConfig). (content ≡ element 0x80 d.id ++ element 0x81 d.address ++ element 0x82 d.key) × IsConfig d) (some_is _ _ e3)
+    subst (λ (d : EimConfig). (content ≡ element 0x80 d.id ++ element 0x81 d.address ++ element 0x82 d.key) × IsConfig d) (same_Some _ _ e3)
     (grouped, record { id = v.fits; address = w.fits; key = l.fits }))))
 
 config_again : (c : EimConfig) → IsConfig c → config_of (config c) ≡ Some c

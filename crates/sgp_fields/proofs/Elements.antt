@@ -6,14 +6,15 @@ use Rattle.std.proofs.lemmas.Bool.Decides.{nat_tests}
 use Rattle.std.proofs.lemmas.List.{append-nil}
 use Rattle.sgp_der.specs.Element.{element, len_octets, IsTag}
 use Rattle.sgp_der.specs.Fields.{part_at}
-use Rattle.sgp_der.proofs.Lengths.{IsBytes}
 use Rattle.sgp_der.proofs.Elements.{element_split}
 use Rattle.sgp_der.proofs.Fields.{on_some, part_takes, part_again}
+use Rattle.std.proofs.lemmas.Option.{same_Some}
+use Rattle.iot_bytes.proofs.Framing.{IsBytes}
 use Rattle.sgp_fields.specs.Elements.{whole_at, tagged_as}
 use Rattle.sgp_fields.specs.Fields.{last_at}
 use Rattle.sgp_fields.specs.Laws.{OneSpelling}
 use Rattle.sgp_fields.proofs.Codecs.{IsCodec, IsListed, IsTaken}
-use Rattle.sgp_fields.proofs.Steps.{some_is, on_end, last_again, last_takes}
+use Rattle.sgp_fields.proofs.Steps.{on_end, last_again, last_takes}
 
 -- the content was read where the tag was found
 pub tagged_some : {A : Type 0} (test : Bool) (read : Option A) (x : A) → cond test read None ≡ Some x → (test ≡ true) × (read ≡ Some x)
@@ -80,7 +81,7 @@ one_spelling {X} {entry} {spell} law a b x y g h e =
     let same : element s.tag s.content ++ x ≡ element t.tag t.content ++ y = ap (λ (o : List ℕ). o ++ x) (sym s.octets) ∙ e ∙ ap (λ (o : List ℕ). o ++ y) t.octets in
     let k = element_split s.tag t.tag s.content t.content x y s.low t.low s.few t.few same in
     let read : entry s.tag s.content ≡ entry t.tag t.content = cc (k.tag, k.content) in
-    (some_is a b (sym s.read ∙ read ∙ t.read), k.rest)
+    (same_Some a b (sym s.read ∙ read ∙ t.read), k.rest)
 
 -- an element whose octets are octets has at most three length octets
 long_first : (n : ℕ) (rest : List ℕ) → 65536 ≤ n → get_or (len_octets n ++ rest) 1 0 ≡ n / 65536

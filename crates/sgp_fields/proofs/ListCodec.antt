@@ -4,13 +4,13 @@ use Rattle.std.specs.List.{flat_map}
 use Rattle.std.specs.Prelude.{Option}
 use Rattle.sgp_der.specs.Element.{element}
 use Rattle.sgp_der.specs.Fields.{part_at}
-use Rattle.sgp_der.proofs.Lengths.{IsBytes}
 use Rattle.sgp_der.proofs.Fields.{on_some, part_takes, part_again}
 use Rattle.small_card.specs.Lists.{Every}
+use Rattle.std.proofs.lemmas.Option.{same_Some}
+use Rattle.iot_bytes.proofs.Framing.{IsBytes}
 use Rattle.sgp_fields.specs.Lists.{list_at, some_of}
 use Rattle.sgp_fields.proofs.Codecs.{IsCodec, IsListed, IsSpelled}
 use Rattle.sgp_fields.proofs.Loop.{step, at_end}
-use Rattle.sgp_fields.proofs.Steps.{some_is}
 
 joined : (x y z w : List ℕ) → x ≡ y → z ≡ w → x ++ z ≡ y ++ w
 joined x y z w e f = cc (e, f)
@@ -57,7 +57,7 @@ list_again {X} {entry} {spell} law (suc n) (x ∷ xs) le fits =
 -- a list that isn't empty
 pub some_takes : {X : Type 0} (xs some : List X) → some_of xs ≡ Some some → (xs ≡ some) × (1 ≤ length xs)
 some_takes [] some e = absurd cc
-some_takes (x ∷ xs) some e = (some_is _ _ e, omega arith)
+some_takes (x ∷ xs) some e = (same_Some _ _ e, omega arith)
 
 pub some_again : {X : Type 0} (xs : List X) → 1 ≤ length xs → some_of xs ≡ Some xs
 some_again [] h = absurd (omega arith)

@@ -11,7 +11,7 @@ use Rattle.sgp_fields.specs.Lists.{list_at}
 abbrev pub with_front : {X : Type 0} → List X → Option (List X) → Option (List X)
 with_front front read = read >>= λ xs. Some (front ++ xs)
 
-regroup : {X : Type 0} (front : List X) (x : X) (read : Option (List X)) → with_front front (read >>= λ xs. Some (x ∷ xs)) ≡ with_front (front ++ x ∷ []) read
+pub regroup : {X : Type 0} (front : List X) (x : X) (read : Option (List X)) → with_front front (read >>= λ xs. Some (x ∷ xs)) ≡ with_front (front ++ x ∷ []) read
 regroup {X} front x (Some xs) = ap (λ (all : List X). Some all) (sym (append_assoc front (x ∷ []) xs))
 regroup front x None = refl
 
@@ -28,10 +28,6 @@ none_left entry b bs = refl
 pub at_end : {X : Type 0} (entry : ℕ → List ℕ → Option X) (n : ℕ) → list_at entry n [] ≡ Some []
 unfolding list_at
 at_end entry n = refl
-
-pub starts : {X : Type 0} (read : Option (List X)) → with_front [] read ≡ read
-starts (Some xs) = refl
-starts None = refl
 
 pub goes_on : {X : Type 0} (entry : ℕ → List ℕ → Option X) (most : ℕ) (front : List X) (bytes : List ℕ) (p : Part) (x : X) (total : Option (List X)) → length front < most → bytes ≢ [] → part_at bytes ≡ Some p → entry p.tag p.content ≡ Some x
     → with_front front (list_at entry (most - length front) bytes) ≡ total → with_front (front ++ x ∷ []) (list_at entry (most - length (front ++ x ∷ [])) p.rest) ≡ total

@@ -2,20 +2,21 @@
 use Rattle.std.proofs.Common.{◌≡◌, ℕ, ◌≤◌, Bool, true, false, List, [], ◌∷◌, length, Some, refl, ap, ◌∙◌, arith}
 use Rattle.sgp_der.specs.Element.{element, len_octets, IsTag}
 use Rattle.sgp_der.specs.Fields.{only_at}
-use Rattle.sgp_der.proofs.Lengths.{IsBytes}
 use Rattle.sgp_der.proofs.Fields.{only_again}
+use Rattle.std.proofs.lemmas.Option.{same_Some}
+use Rattle.iot_bytes.proofs.Framing.{IsBytes}
 use Rattle.sgp_fields.specs.Fields.{last_mark_at, mark}
 use Rattle.sgp_fields.proofs.Codecs.{IsCodec}
-use Rattle.sgp_fields.proofs.Steps.{some_is, on_only, on_end}
+use Rattle.sgp_fields.proofs.Steps.{on_only, on_end}
 use Rattle.sgp_fields.proofs.ValueCodecs.{IsAny}
 
 takes : (tag : ℕ) (bytes : List ℕ) (set : Bool) → IsBytes bytes → last_mark_at tag bytes ≡ Some set → bytes ≡ mark tag set
 unfolding last_mark_at
-takes tag [] set fits e = ap (mark tag) (some_is false set e)
+takes tag [] set fits e = ap (mark tag) (same_Some false set e)
 takes tag (b ∷ bs) set fits e =
     on_only tag (b ∷ bs) _ set fits e (λ content w e1.
     on_end content _ set e1 (λ end e2.
-    w.octets ∙ ap (element tag) end ∙ ap (mark tag) (some_is true set e2)))
+    w.octets ∙ ap (element tag) end ∙ ap (mark tag) (same_Some true set e2)))
 
 one_left : (tag a : ℕ) (rest : List ℕ) → only_at tag (a ∷ rest) ≡ Some [] → last_mark_at tag (a ∷ rest) ≡ Some true
 unfolding last_mark_at

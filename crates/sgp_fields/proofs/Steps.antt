@@ -1,17 +1,15 @@
 -- The steps of a reader, each with what it found as variables; and each read again from its spelling.
-use Rattle.std.proofs.Common.{◌≡◌, ◌≢◌, ℕ, ◌≤◌, Bool, true, false, List, [], ◌∷◌, ◌++◌, length, Option, Some, None, IfSome, refl, ap, subst, ◌∙◌}
+use Rattle.std.proofs.Common.{◌≡◌, ◌≢◌, ℕ, ◌≤◌, Bool, true, false, List, [], ◌∷◌, ◌++◌, length, Option, Some, None, IfSome, refl, ap, ◌∙◌}
 use Rattle.std.proofs.lemmas.Bool.{ne_eqb}
 use Rattle.sgp_der.specs.Element.{element, IsTag}
 use Rattle.sgp_der.specs.Reading.{Part, element_at}
 use Rattle.sgp_der.specs.Fields.{◌>>=◌, field_at, only_at, ended}
-use Rattle.sgp_der.proofs.Lengths.{IsBytes}
 use Rattle.sgp_der.proofs.Fields.{on_some, part_again, field_takes, field_again, only_takes, only_again, IsField}
+use Rattle.std.proofs.lemmas.Option.{same_Some}
+use Rattle.iot_bytes.proofs.Framing.{IsBytes}
 use Rattle.sgp_fields.specs.Values.{only_if}
 use Rattle.sgp_fields.specs.Fields.{value_at, last_at, found_or_out, optional_at, optional}
 use Rattle.sgp_fields.proofs.Codecs.{IsCodec, IsFront, IsPrefix, IsValue, IsOptional, IsLast, IsWhole}
-
-pub some_is : {A : Type 0} (x y : A) → Some x ≡ Some y → x ≡ y
-some_is x y e = cc
 
 -- a test that was passed
 pub on_test : {A B P : Type 0} (test : Bool) (x : A) (f : A → Option B) (y : B) → (only_if test x >>= f) ≡ Some y → (test ≡ true → f x ≡ Some y → P) → P
@@ -59,25 +57,13 @@ on_value {X} {A} {P} {of} {spell} {Fits} codec tag bytes f y fits e go =
     on_some (field_at tag bytes >>= λ p. of p.content >>= λ x. Some (x, p.rest)) f y e (λ r a e1.
     on_some (field_at tag bytes) (λ p. of p.content >>= λ x. Some (x, p.rest)) r a (λ p b a1.
     on_some (of p.content) (λ x. Some (x, p.rest)) r a1 (λ x c a2.
-    let same : (x, p.rest) ≡ r = some_is (x, p.rest) r a2 in
+    let same : (x, p.rest) ≡ r = same_Some (x, p.rest) r a2 in
     go x p.rest (value_parts of spell Fits codec tag bytes p x (field_takes tag bytes p fits b) c) (ap f same ∙ e1))))
 
 pub value_again : {X : Type 0} {of : List ℕ → Option X} {spell : X → List ℕ} {Fits : X → Type 0} → IsCodec of spell Fits → (tag : ℕ) (x : X) (rest : List ℕ) → IsTag tag → length (spell x) ≤ 16777215 → Fits x
     → value_at of tag (element tag (spell x) ++ rest) ≡ Some (x, rest)
 unfolding value_at
 value_again {X} {of} {spell} codec tag x rest low few fits = rw (field_again tag (spell x) rest low few) (rw (codec.again x fits) refl)
-
-value_takes : {X : Type 0} {of : List ℕ → Option X} {spell : X → List ℕ} {Fits : X → Type 0} → IsCodec of spell Fits → (tag : ℕ) (bytes : List ℕ) (x : X) (rest : List ℕ) → IsBytes bytes → value_at of tag bytes ≡ Some (x, rest)
-    → IsValue spell Fits tag bytes x rest
-value_takes {X} {of} {spell} {Fits} codec tag bytes x rest fits e =
-    on_value codec tag bytes (λ r. Some r) (x, rest) fits (rw e refl) (λ v left front same.
-    let is : (v, left) ≡ (x, rest) = some_is (v, left) (x, rest) same in
-    subst (λ (r : X × List ℕ). IsValue spell Fits tag bytes r.0 r.1) is front)
-
--- a field is a value that is read from the front
-pub value_prefix : {X : Type 0} {of : List ℕ → Option X} {spell : X → List ℕ} {Fits : X → Type 0} → IsCodec of spell Fits → (tag : ℕ) → IsTag tag → ((x : X) → Fits x → length (spell x) ≤ 16777215)
-    → IsPrefix (value_at of tag) (λ x. element tag (spell x)) Fits
-value_prefix codec tag low few = record { takes = value_takes codec tag; again = λ x rest fits. value_again codec tag x rest low (few x fits) fits }
 
 pub last_takes : {X : Type 0} {of : List ℕ → Option X} {spell : X → List ℕ} {Fits : X → Type 0} → IsCodec of spell Fits → (tag : ℕ) (bytes : List ℕ) (x : X) → IsBytes bytes → last_at of tag bytes ≡ Some x → IsLast spell Fits tag bytes x
 unfolding last_at
@@ -104,7 +90,7 @@ optional_found {X} of spell Fits codec tag bytes f y fits (Some p) is e go =
     let Found : Type 0 = Option X × List ℕ in
     on_some {A = Found} (of p.content >>= λ x. Some (Some x, p.rest)) f y e (λ r a e1.
     on_some {B = Found} (of p.content) (λ x. Some (Some x, p.rest)) r a (λ x c a1.
-    let same : (Some x, p.rest) ≡ r = some_is (Some x, p.rest) r a1 in
+    let same : (Some x, p.rest) ≡ r = same_Some (Some x, p.rest) r a1 in
     let v = value_parts of spell Fits codec tag bytes p x (field_takes tag bytes p fits is) c in
     go (Some x) p.rest (record { parts = v.parts; fits = v.fits; others = v.others }) (ap f same ∙ e1)))
 

@@ -3,7 +3,6 @@ use Rattle.std.proofs.Common.{◌≡◌, ℕ, ◌^◌, ◌<◌, ◌≤◌, Bool,
 use Rattle.std.specs.Prelude.{◌==◌, ◌&&◌, ◌⊎◌, nat_le}
 use Rattle.std.proofs.lemmas.Bool.{eqb-true, leb-true, le-leb, and_parts, and_from}
 use Rattle.sgp_der.specs.Number.{uint, uint_of}
-use Rattle.sgp_der.proofs.Lengths.{IsBytes}
 use Rattle.sgp_der.proofs.Fields.{on_some, guard_some, nothing}
 use Rattle.sgp_der.proofs.Values.{uint_takes, uint_again, uint_few}
 use Rattle.sgp_values.specs.Iccids.{IsIccid}
@@ -11,9 +10,11 @@ use Rattle.sgp_values.specs.Eids.{IsEid}
 use Rattle.sgp_values.specs.Ranges.{IsEimId, IsAddress, IsKey, IsNickname}
 use Rattle.sgp_values.specs.Reading.{iccid_of, eid_of, eim_id_of, address_of, key_of, nickname_of}
 use Rattle.sgp_values.proofs.Reading.{iccid_takes, iccid_again, eid_takes, eid_again, eim_id_takes, eim_id_again, address_takes, address_again, key_takes, key_again, nickname_takes, nickname_again}
+use Rattle.std.proofs.lemmas.Option.{same_Some}
+use Rattle.iot_bytes.proofs.Framing.{IsBytes}
 use Rattle.sgp_fields.specs.Values.{flag, flag_content, flag_of_number, flag_of, number_of, mark_of}
 use Rattle.sgp_fields.proofs.Codecs.{IsCodec}
-use Rattle.sgp_fields.proofs.Steps.{some_is, only_if_again}
+use Rattle.sgp_fields.proofs.Steps.{only_if_again}
 
 -- octets stand for themselves
 abbrev pub octets : List ℕ → List ℕ
@@ -42,13 +43,13 @@ pub chosen : {A : Type 0} (b : Bool) (x y z : A) → cond b x y ≡ z → ((b �
 chosen true x y z e = inl (refl, e)
 chosen false x y z e = inr (refl, e)
 
-flag_number : (n : ℕ) (b : Bool) → flag_of_number n ≡ Some b → n ≡ flag b
+pub flag_number : (n : ℕ) (b : Bool) → flag_of_number n ≡ Some b → n ≡ flag b
 flag_number n b e =
     elim (chosen (n == 0) _ _ _ e) [
-      | inl h ↦ eqb-true n 0 h.0 ∙ ap flag (some_is false b h.1)
+      | inl h ↦ eqb-true n 0 h.0 ∙ ap flag (same_Some false b h.1)
       | inr h ↦
           elim (chosen (n == 1) _ _ _ h.1) [
-            | inl k ↦ eqb-true n 1 k.0 ∙ ap flag (some_is true b k.1)
+            | inl k ↦ eqb-true n 1 k.0 ∙ ap flag (same_Some true b k.1)
             | inr k ↦ absurd cc
           ]
     ]

@@ -29,7 +29,7 @@ record IsOne {X : Type 0} (t u : X → Bool) (xs : List X) : Type 0 where
   left : without t xs ≡ front ++ back
   found : filter t xs ≡ one ∷ []
 
-filter_none : {X : Type 0} (t : X → Bool) (xs : List X) → Every (λ x. t x ≡ false) xs → filter t xs ≡ []
+pub filter_none : {X : Type 0} (t : X → Bool) (xs : List X) → Every (λ x. t x ≡ false) xs → filter t xs ≡ []
 filter_none t [] h = refl
 filter_none t (x ∷ xs) h = ap (λ b. cond b (x ∷ filter t xs) (filter t xs)) h.0 ∙ filter_none t xs h.1
 

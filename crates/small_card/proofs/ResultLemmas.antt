@@ -46,24 +46,31 @@ marks_rise seq n rs h = pair_map (λ x y. IsBefore x y × (has_seq seq x ≡ tru
     (pair_both IsBefore (λ x. has_seq seq x ≡ true) (filter (has_seq seq) rs) (pair_filter IsBefore (has_seq seq) rs h) (every_passes (has_seq seq) rs))
 
 -- each of the other results stands before each of the marked ones
-marks_last : (seq n : ℕ) (rs : List PackageResult) → Every (IsPending n) rs → Every (λ x. Every (IsBefore x) (map (with_mark n) (filter (has_seq seq) rs))) (without (has_seq seq) rs)
-marks_last seq n rs h = every_mono (IsPending n) (λ x. Every (IsBefore x) (map (with_mark n) (filter (has_seq seq) rs)))
-    (λ x p. every_map (λ y. Unit {0}) (IsBefore x) (with_mark n) (λ y _. p.given) (filter (has_seq seq) rs) (every_all (λ y. Unit {0}) (λ y. tt) (filter (has_seq seq) rs)))
-    (without (has_seq seq) rs) (every_filter (IsPending n) (λ r. not (has_seq seq r)) rs h)
+marks_last : (P : PackageResult → Type 0) (seq n : ℕ) → ((x : PackageResult) → P x → x.seq < n) → (rs : List PackageResult) → Every P rs → Every (λ x. Every (IsBefore x) (map (with_mark n) (filter (has_seq seq) rs))) (without (has_seq seq) rs)
+marks_last P seq n below rs h = every_mono P (λ x. Every (IsBefore x) (map (with_mark n) (filter (has_seq seq) rs)))
+    (λ x p. every_map (λ y. Unit {0}) (IsBefore x) (with_mark n) (λ y _. below x p) (filter (has_seq seq) rs) (every_all (λ y. Unit {0}) (λ y. tt) (filter (has_seq seq) rs)))
+    (without (has_seq seq) rs) (every_filter P (λ r. not (has_seq seq r)) rs h)
+
+-- a mark keeps their number, and the marked ones come last
+pub marked_few : (seq n most : ℕ) (rs : List PackageResult) → length rs ≤ most → length (without (has_seq seq) rs ++ map (with_mark n) (filter (has_seq seq) rs)) ≤ most
+marked_few seq n most rs few =
+    let rest : List PackageResult = without (has_seq seq) rs in
+    let marks : List PackageResult = map (with_mark n) (filter (has_seq seq) rs) in
+    let l : length (rest ++ marks) ≡ length rest + length marks = length-append rest marks in
+    let m : length marks ≡ length (filter (has_seq seq) rs) = length-map (filter (has_seq seq) rs) (with_mark n) in
+    omega (arith, l, m, length_parts (has_seq seq) rs, few)
+
+pub marked_rising : (P : PackageResult → Type 0) (seq n : ℕ) → ((x : PackageResult) → P x → x.seq < n) → (rs : List PackageResult) → EveryPair IsBefore rs → Every P rs → EveryPair IsBefore (without (has_seq seq) rs ++ map (with_mark n) (filter (has_seq seq) rs))
+marked_rising P seq n below rs rising each =
+    pair_append IsBefore (without (has_seq seq) rs) (map (with_mark n) (filter (has_seq seq) rs)) (pair_filter IsBefore (λ r. not (has_seq seq r)) rs rising) (marks_rise seq n rs rising) (marks_last P seq n below rs each)
 
 pub marked_valid : (seq : ℕ) (rs : Results) → rs.next ≤ 4294967294 → AreResults rs → AreResults (marked seq rs)
 unfolding marked
-marked_valid seq rs room h =
-    let rest : List PackageResult = without (has_seq seq) rs.pending in
-    let marks : List PackageResult = map (with_mark rs.next) (filter (has_seq seq) rs.pending) in
-    record {
-      few =
-          let l : length (rest ++ marks) ≡ length rest + length marks = length-append rest marks in
-          let m : length marks ≡ length (filter (has_seq seq) rs.pending) = length-map (filter (has_seq seq) rs.pending) (with_mark rs.next) in
-          omega (arith, l, m, length_parts (has_seq seq) rs.pending, h.few);
-      each = every_append (IsPending (rs.next + 1)) rest marks
-          (every_mono (IsPending rs.next) (IsPending (rs.next + 1)) (pending_later rs.next) rest (every_filter (IsPending rs.next) (λ r. not (has_seq seq r)) rs.pending h.each))
-          (every_map (IsPending rs.next) (IsPending (rs.next + 1)) (with_mark rs.next) (λ r p. mark_valid rs.next r h.next p) (filter (has_seq seq) rs.pending) (every_filter (IsPending rs.next) (has_seq seq) rs.pending h.each));
-      rising = pair_append IsBefore rest marks (pair_filter IsBefore (λ r. not (has_seq seq r)) rs.pending h.rising) (marks_rise seq rs.next rs.pending h.rising) (marks_last seq rs.next rs.pending h.each);
-      next = record { some = omega arith; fits = omega (arith, room) };
-    }
+marked_valid seq rs room h = record {
+  few = marked_few seq rs.next 8 rs.pending h.few;
+  each = every_append (IsPending (rs.next + 1)) (without (has_seq seq) rs.pending) (map (with_mark rs.next) (filter (has_seq seq) rs.pending))
+      (every_mono (IsPending rs.next) (IsPending (rs.next + 1)) (pending_later rs.next) (without (has_seq seq) rs.pending) (every_filter (IsPending rs.next) (λ r. not (has_seq seq r)) rs.pending h.each))
+      (every_map (IsPending rs.next) (IsPending (rs.next + 1)) (with_mark rs.next) (λ r p. mark_valid rs.next r h.next p) (filter (has_seq seq) rs.pending) (every_filter (IsPending rs.next) (has_seq seq) rs.pending h.each));
+  rising = marked_rising (IsPending rs.next) seq rs.next (λ x p. p.given) rs.pending h.rising h.each;
+  next = record { some = omega arith; fits = omega (arith, room) };
+}

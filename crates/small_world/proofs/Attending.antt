@@ -1,8 +1,8 @@
 -- The modems after a run are a function of those handed in and of what was told.
-use Rattle.std.proofs.Common.{◌≡◌, ℕ, ◌+◌, Bool, true, false, cond, List, [], ◌∷◌, length, map, refl, ◌∙◌, ap, sym, subst, Option, None, Some}
-use Rattle.std.specs.Prelude.{nat_lt, take, drop}
+use Rattle.std.proofs.Common.{◌≡◌, ℕ, Bool, true, false, cond, List, [], ◌∷◌, length, map, refl, ◌∙◌, ap, sym, subst, Option, None, Some}
+use Rattle.std.specs.Prelude.{nat_lt}
 use Rattle.std.proofs.lemmas.Bool.{cond_both}
-use Rattle.std.proofs.lemmas.List.{map-append, length-map, take-map, drop-map}
+use Rattle.std.proofs.lemmas.List.{length-map}
 use Rattle.small_card.specs.Fresh.{fresh}
 use Rattle.small_card.specs.declared.types.Answer.{Answer}
 use Rattle.small_card.specs.declared.types.Answer.TheVariants as answer
@@ -16,6 +16,7 @@ use Rattle.iot_schedule.specs.declared.types.Device.{Device}
 use Rattle.iot_schedule.specs.declared.types.Line.{Line}
 use Rattle.iot_schedule.specs.declared.types.Line.TheVariants as line
 use Rattle.modem_bank.specs.Modems.{Seen, told_one, told, without}
+use Rattle.modem_bank.proofs.Telling.{map-without}
 use Rattle.small_world.specs.Acting.{command_of, posts_of, hearing, told_answer, is_answered, asked_card, done, acts}
 use Rattle.small_world.specs.Lines.{told_loaded, handed, polled, gone_down, acted, attended}
 use Rattle.small_world.specs.Modems.{without_taken, attached, enabled_lit, told_since}
@@ -25,26 +26,27 @@ use Rattle.small_world.specs.Stepping.{lost_step, answered_step, commanded, boot
 use Rattle.small_world.specs.Worlds.{SmallWorld, enabled_after, started, start_world, eid_of}
 use Rattle.small_world.specs.declared.reply.Reply.{Reply}
 
-abbrev pub Same : SmallWorld → SmallWorld → Type 0
-Same v w = w.modems ≡ v.modems
+-- the modems of one world are those of the other
+abbrev pub HasSameModems : SmallWorld → SmallWorld → Type 0
+HasSameModems v w = w.modems ≡ v.modems
 
-commanded_same : (w : SmallWorld) (c : Command) (lost : Bool) → Same w (commanded c lost w)
+commanded_same : (w : SmallWorld) (c : Command) (lost : Bool) → HasSameModems w (commanded c lost w)
 unfolding commanded
-commanded_same w c lost = cond_both w.lit (cond lost (lost_step c w) (answered_step c w)) w (Same w) (λ _. cond_both lost (lost_step c w) (answered_step c w) (Same w) (λ _. refl) (λ _. refl)) (λ _. refl)
+commanded_same w c lost = cond_both w.lit (cond lost (lost_step c w) (answered_step c w)) w (HasSameModems w) (λ _. cond_both lost (lost_step c w) (answered_step c w) (HasSameModems w) (λ _. refl) (λ _. refl)) (λ _. refl)
 
-asked_same : (w : SmallWorld) (c : Command) (lost : Bool) → Same w (asked_card c lost w)
+asked_same : (w : SmallWorld) (c : Command) (lost : Bool) → HasSameModems w (asked_card c lost w)
 unfolding asked_card told_answer
-asked_same w c lost = cond_both (is_answered lost w) (told_answer (reply w.history c) (commanded c lost w)) (commanded c lost w) (Same w) (λ _. commanded_same w c lost) (λ _. commanded_same w c lost)
+asked_same w c lost = cond_both (is_answered lost w) (told_answer (reply w.history c) (commanded c lost w)) (commanded c lost w) (HasSameModems w) (λ _. commanded_same w c lost) (λ _. commanded_same w c lost)
 
-done_same : (w : SmallWorld) (o : Option Command) (ps : List Post) (lost : Bool) → Same w (done o ps lost w)
+done_same : (w : SmallWorld) (o : Option Command) (ps : List Post) (lost : Bool) → HasSameModems w (done o ps lost w)
 done_same w None ps lost = refl
 done_same w (Some c) ps lost = asked_same w c lost
 
-acts_same : (w : SmallWorld) (e : IpaEvent) (lost : Bool) → Same w (acts e lost w)
+acts_same : (w : SmallWorld) (e : IpaEvent) (lost : Bool) → HasSameModems w (acts e lost w)
 unfolding acts
 acts_same w e lost = done_same (hearing e w) (command_of (act_of w.assistant e)) (posts_of (act_of w.assistant e)) lost
 
-loaded_same : (w : SmallWorld) (a : Answer) → Same w (told_loaded a w)
+loaded_same : (w : SmallWorld) (a : Answer) → HasSameModems w (told_loaded a w)
 unfolding told_answer
 loaded_same w answer.Personalised = refl
 loaded_same w (answer.Loaded r) = refl
@@ -60,33 +62,33 @@ loaded_same w (answer.InitialRefused code) = refl
 loaded_same w answer.Malformed = refl
 loaded_same w answer.AlreadyPersonal = refl
 
-handed_same : (w : SmallWorld) (good : Bool) (bytes : List ℕ) (lost : Bool) → Same w (handed good bytes lost w)
+handed_same : (w : SmallWorld) (good : Bool) (bytes : List ℕ) (lost : Bool) → HasSameModems w (handed good bytes lost w)
 unfolding handed
 handed_same w good bytes lost =
     let c : Command = command.Load good bytes in
-    cond_both (is_answered lost w) (told_loaded (reply w.history c) (commanded c lost w)) (commanded c lost w) (Same w)
+    cond_both (is_answered lost w) (told_loaded (reply w.history c) (commanded c lost w)) (commanded c lost w) (HasSameModems w)
     (λ _. loaded_same (commanded c lost w) (reply w.history c) ∙ commanded_same w c lost) (λ _. commanded_same w c lost)
 
-polled_same : (w : SmallWorld) (id : List ℕ) → Same w (polled id w)
+polled_same : (w : SmallWorld) (id : List ℕ) → HasSameModems w (polled id w)
 unfolding polled
-polled_same w id = cond_both (is_known id w.eims) (acts (poll id (eid_of w)) false w) w (Same w) (λ _. acts_same w (poll id (eid_of w)) false) (λ _. refl)
+polled_same w id = cond_both (is_known id w.eims) (acts (poll id (eid_of w)) false w) w (HasSameModems w) (λ _. acts_same w (poll id (eid_of w)) false) (λ _. refl)
 
-gone_up_same : (w : SmallWorld) (o : Option Post) → Same w (gone_up o w)
+gone_up_same : (w : SmallWorld) (o : Option Post) → HasSameModems w (gone_up o w)
 unfolding gone_up
 gone_up_same w None = refl
 gone_up_same w (Some p) = refl
 
-gone_down_same : (w : SmallWorld) (o : Option Reply) (good lost : Bool) → Same w (gone_down o good lost w)
+gone_down_same : (w : SmallWorld) (o : Option Reply) (good lost : Bool) → HasSameModems w (gone_down o good lost w)
 unfolding gone_down
 gone_down_same w None good lost = refl
 gone_down_same w (Some r) good lost = acts_same w (message r.from r.message good) lost
 
-booted_same : (w : SmallWorld) (lost taken : Bool) → Same w (booted lost taken w)
+booted_same : (w : SmallWorld) (lost taken : Bool) → HasSameModems w (booted lost taken w)
 unfolding booted
-booted_same w lost taken = cond_both lost (record w { lit = false; plan = None }) _ (Same w) (λ _. refl) (λ _. refl)
+booted_same w lost taken = cond_both lost (record w { lit = false; plan = None }) _ (HasSameModems w) (λ _. refl) (λ _. refl)
 
 -- no line but a detach changes the modems, until they are told
-acted_modems : (w : SmallWorld) (l : Line) (lost taken : Bool) → (acted l lost taken w).modems ≡ without_taken l w.modems
+pub acted_modems : (w : SmallWorld) (l : Line) (lost taken : Bool) → (acted l lost taken w).modems ≡ without_taken l w.modems
 unfolding acted joined
 acted_modems w (line.Eim id) lost taken = refl
 acted_modems w (line.Initial id address key) lost taken = commanded_same w (command.Initial id address key) lost
@@ -108,11 +110,8 @@ acted_modems w (line.Kept id) lost taken = refl
 acted_modems w (line.Detach at) lost taken = refl
 acted_modems w line.Modems lost taken = refl
 
--- what is taken away is taken away before or after it is told
-without_map : (f : Seen → Seen) (at : ℕ) (ms : List Seen) → without at (map f ms) ≡ map f (without at ms)
-without_map f at ms = rw (take-map f at ms, drop-map f (at + 1) ms) (sym (map-append f (take at ms) (drop (at + 1) ms)))
-
-taken_map : (f : Seen → Seen) (l : Line) (ms : List Seen) → without_taken l (map f ms) ≡ map f (without_taken l ms)
+-- what is taken away is taken away before or after each is looked at
+pub taken_map : {A B : Type 0} (f : A → B) (l : Line) (ms : List A) → without_taken l (map f ms) ≡ map f (without_taken l ms)
 taken_map f (line.Eim id) ms = refl
 taken_map f (line.Initial id address key) ms = refl
 taken_map f (line.Bind id association last) ms = refl
@@ -132,7 +131,7 @@ taken_map f line.Show ms = refl
 taken_map f (line.Kept id) ms = refl
 taken_map f (line.Detach at) ms =
     subst (λ n. cond (nat_lt at n) (without at (map f ms)) (map f ms) ≡ map f (cond (nat_lt at (length ms)) (without at ms) ms)) (sym (length-map ms f))
-    (elim (nat_lt at (length ms)) as (λ b. cond b (without at (map f ms)) (map f ms) ≡ map f (cond b (without at ms) ms)) [ true ↦ without_map f at ms | false ↦ refl ])
+    (elim (nat_lt at (length ms)) as (λ b. cond b (without at (map f ms)) (map f ms) ≡ map f (cond b (without at ms) ms)) [ true ↦ sym (map-without f at ms) | false ↦ refl ])
 taken_map f line.Modems ms = refl
 
 -- telling each modem of a list once more

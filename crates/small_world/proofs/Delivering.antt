@@ -9,7 +9,7 @@ use Rattle.small_card.specs.Ranges.{IsNumber, IsBody, greatest_counter}
 use Rattle.small_card.specs.declared.types.Body.{Body}
 use Rattle.small_card.specs.declared.types.PackageResult.{PackageResult}
 use Rattle.small_card.proofs.ListLemmas.{every_mono, every_append, every_push, none_every, pair_push, same_yes, same_no}
-use Rattle.esipa_codec.specs.Eims.{EimState, Order, new_eim, counters_of, bound_to, ordered_by, ordered, waits, first_waiting, skip_first, skipped, package_of, answer_with, message_end, heard}
+use Rattle.esipa_codec.specs.Eims.{EimState, Order, new_eim, counters_of, bound_to, ordered_by, ordered, waits, first_waiting, skip_first, skipped, package_of, answer_with, message_end, heard, IsBinding}
 use Rattle.esipa_codec.specs.declared.ends.Binding.{Binding}
 use Rattle.esipa_codec.specs.declared.ends.MessageEnd.TheVariants as heard_end
 use Rattle.esipa_codec.specs.declared.messages.Post.{Post}
@@ -23,7 +23,7 @@ use Rattle.small_world.specs.Network.{is_named, is_known, eim_of, at_eim, joined
 use Rattle.small_world.specs.Stepping.{attempt}
 use Rattle.small_world.specs.Worlds.{SmallWorld, eid_of}
 use Rattle.small_world.proofs.HasLemmas.{has_every, has_left, has_map, has_found, found_fits, below_last}
-use Rattle.small_world.proofs.Invariant.{IsSent, IsAnswered, IsBound, IsOrder, IsFit, Keeps, KeepsWorld, keeps_down, keeps_eims, HasGrown, IsTrue, IsChange, changed, at_eim_keeps}
+use Rattle.small_world.proofs.Invariant.{IsSent, IsAnswered, IsOrder, IsFit, Keeps, KeepsWorld, keeps_down, keeps_eims, HasGrown, IsTrue, IsChange, changed, at_eim_keeps}
 
 -- a message is heard
 heard_grows : (m : ToEim) (e : EimState) → HasGrown e (heard m e)
@@ -143,7 +143,7 @@ ordered_by_rest (Some b) body e = cond_both (b.last == greatest_counter) e (reco
   orders = e.orders ++ record { association = b.association; counter = b.last + 1; body = body; skipped = false } ∷ [];
 }) (IsRest e) (λ _. no_change e) (λ _. record { id = refl; eid = refl; received = refl })
 
-ordered_by_fits : (b : Option Binding) (body : Body) (e : EimState) → IsBody body → IfSome b IsBound → IsFit e → IsFit (ordered_by b body e)
+ordered_by_fits : (b : Option Binding) (body : Body) (e : EimState) → IsBody body → IfSome b IsBinding → IsFit e → IsFit (ordered_by b body e)
 ordered_by_fits None body e o t f = f
 ordered_by_fits (Some b) body e o t f = cond_both (b.last == greatest_counter) e (record e {
   bound = Some (record b { last = b.last + 1 });
@@ -173,7 +173,7 @@ unfolding skipped
 skipped_change fs = rest_change fs skipped (λ e. record { id = refl; eid = refl; received = refl }) (λ e f. record { id = f.id; eid = f.eid; bound = f.bound; orders = skip_fits (waits e.received) e.orders f.orders })
 
 -- an eIM joins, and has received nothing
-joined_apart : (id eid : List ℕ) (es : List EimState) → AreApart es → is_known id es ≡ false → AreApart (es ++ new_eim id eid ∷ [])
+pub joined_apart : (id eid : List ℕ) (es : List EimState) → AreApart es → is_known id es ≡ false → AreApart (es ++ new_eim id eid ∷ [])
 unfolding is_known
 joined_apart id eid es h n = pair_push (λ d e. d.id ≢ e.id) es (new_eim id eid) h (every_mono (λ e. is_named id e ≡ false) (λ e. e.id ≢ id) (λ e f same_id. same_no id e.id f (sym same_id)) es (none_every (is_named id) es n))
 

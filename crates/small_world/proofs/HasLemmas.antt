@@ -2,7 +2,7 @@
 use Rattle.std.proofs.Common.{◌≡◌, ◌≢◌, ◌⊎◌, inl, inr, ℕ, ◌+◌, ◌≤◌, arith, Bool, true, false, List, [], ◌∷◌, ◌++◌, map, refl, ◌∙◌, ap, sym, subst, suc, zero, cond, Option, None, Some}
 use Rattle.std.specs.List.{filter, find, list_any}
 use Rattle.std.specs.Prelude.{slice_get, IfSome}
-use Rattle.std.proofs.lemmas.Bool.{cond_both, or_cases, or_left, or_right, false≢true}
+use Rattle.std.proofs.lemmas.Bool.{cond_both, or_cases, false≢true}
 use Rattle.small_card.specs.Lists.{Every}
 use Rattle.small_world.specs.Has.{Has}
 
@@ -47,13 +47,6 @@ has_filter t x (y ∷ xs) k e =
     (λ b. elim k [ inl s ↦ inl s | inr i ↦ inr (has_filter t x xs i e) ])
     (λ b. elim k [ inl s ↦ absurd (false≢true (sym b ∙ ap t s ∙ e)) | inr i ↦ has_filter t x xs i e ])
 
-pub has_filtered : {X : Type 0} (t : X → Bool) (x : X) (xs : List X) → Has x (filter t xs) → Has x xs × (t x ≡ true)
-has_filtered t x [] k = absurd k
-has_filtered t x (y ∷ xs) k =
-    cond_both (t y) (y ∷ filter t xs) (filter t xs) (λ ys. Has x ys → Has x (y ∷ xs) × (t x ≡ true))
-    (λ b j. elim j [ inl s ↦ (inl s, sym (ap t s) ∙ b) | inr i ↦ let r = has_filtered t x xs i in (inr r.0, r.1) ])
-    (λ b j. let r = has_filtered t x xs j in (inr r.0, r.1)) k
-
 pub has_any : {X : Type 0} (t : X → Bool) (xs : List X) → list_any t xs ≡ true → (x : X) × Has x xs × (t x ≡ true)
 has_any t [] e = absurd (false≢true e)
 has_any t (x ∷ xs) e = elim (or_cases (t x) (list_any t xs) e) [
@@ -76,14 +69,6 @@ has_found t (y ∷ ys) x e =
       | false ↦ λ b k. let r = has_found t ys x k in (inr r.0, r.1)
     ] refl e
 
--- an element that passes is there
-pub any_has : {X : Type 0} (t : X → Bool) (x : X) (xs : List X) → Has x xs → t x ≡ true → list_any t xs ≡ true
-any_has t x [] i e = absurd i
-any_has t x (y ∷ ys) i e = elim i [
-  | inl s ↦ or_left (t y) (list_any t ys) (ap t s ∙ e)
-  | inr j ↦ or_right (t y) (list_any t ys) (any_has t x ys j e)
-]
-
 -- what holds where there is something
 pub if_some : {X : Type 0} (o : Option X) (P : X → Type 0) → ((x : X) → o ≡ Some x → P x) → IfSome o P
 if_some None P f = tt
@@ -96,11 +81,6 @@ at_every P xs n h = if_some (slice_get xs n) P (λ x e. has_every P xs x h (has_
 -- what is found has what every element has
 pub found_fits : {X : Type 0} (P : X → Type 0) (t : X → Bool) (xs : List X) → Every P xs → IfSome (find t xs) P
 found_fits P t xs h = if_some (find t xs) P (λ x e. has_every P xs x h (has_found t xs x e).0)
-
--- what every element has, the last one has
-pub every_last : {X : Type 0} (P : X → Type 0) (xs : List X) (x : X) → Every P (xs ++ x ∷ []) → P x
-every_last P [] x h = h.0
-every_last P (y ∷ ys) x h = every_last P ys x h.1
 
 -- below the last number
 pub below_last : (n last : ℕ) → n ≤ last → n ≢ last → n + 1 ≤ last

@@ -1,27 +1,27 @@
 -- What holds of every world: the history may go on, each result is pending or received, and all
 -- messages are true of it. Stated over the fields that lines change.
-use Rattle.std.proofs.Common.{◌≡◌, ◌≢◌, ◌⊎◌, inl, inr, ℕ, ◌≤◌, List, [], ◌++◌, map, refl, ◌∙◌, sym, cond, Option, None, Some}
+use Rattle.std.proofs.Common.{◌≡◌, ◌≢◌, ◌⊎◌, inl, inr, ℕ, List, [], ◌++◌, map, refl, ◌∙◌, sym, cond, Option, None, Some}
 use Rattle.std.specs.Prelude.{IfSome}
 use Rattle.std.proofs.lemmas.Bool.{cond_both}
 use Rattle.sgp_values.specs.Eids.{IsEid}
 use Rattle.sgp_values.specs.Ranges.{IsEimId}
 use Rattle.small_card.specs.Lists.{Every}
 use Rattle.small_card.specs.Histories.{History, card_of, with_unit}
-use Rattle.small_card.specs.Legal.{May, IsLegal, IsLegalFrom}
-use Rattle.small_card.specs.Ranges.{IsNumber, IsCounter, IsBody, IsSigned, IsRefused, greatest_counter}
+use Rattle.small_card.specs.Legal.{May, IsLegal}
+use Rattle.small_card.specs.Ranges.{IsNumber, IsCounter, IsBody, IsSigned, IsRefused}
 use Rattle.small_card.specs.Units.{CardUnit, initial, load, rollback, remove}
 use Rattle.small_card.specs.declared.types.PackageResult.{PackageResult}
 use Rattle.small_card.specs.declared.types.Signed.{Signed}
 use Rattle.small_card.proofs.ListLemmas.{every_mono, every_append, every_map, pair_map}
 use Rattle.package_codec.specs.Replies.{grown}
 use Rattle.package_codec.specs.Spelling.{signed}
-use Rattle.esipa_codec.specs.Eims.{EimState, Order}
-use Rattle.esipa_codec.specs.declared.ends.Binding.{Binding}
+use Rattle.esipa_codec.specs.Eims.{EimState, Order, IsBinding}
 use Rattle.esipa_codec.specs.declared.messages.Post.{Post}
 use Rattle.esipa_codec.specs.declared.messages.ToEim.{ToEim}
 use Rattle.esipa_codec.specs.declared.messages.ToEim.TheVariants as up
 use Rattle.esipa_codec.specs.declared.messages.ToIpa.{ToIpa}
 use Rattle.esipa_codec.specs.declared.messages.ToIpa.TheVariants as down
+use Rattle.small_card.proofs.Validity.{more_legal}
 use Rattle.small_world.specs.Forms.{newest, forms}
 use Rattle.small_world.specs.Has.{Has}
 use Rattle.small_world.specs.Lossless.{AreApart}
@@ -53,10 +53,7 @@ pub record MayCome (h : History) (es : List EimState) (u : CardUnit) : Type 0 wh
   pub may : May h u
   pub safe : IsSafe es u
 
--- what an eIM is bound to, and an order, are in range
-abbrev pub IsBound : Binding → Type 0
-IsBound b = IsNumber b.association × (b.last ≤ greatest_counter)
-
+-- an order is in range
 pub record IsOrder (o : Order) : Type 0 where
   pub association : IsNumber o.association
   pub counter : IsCounter o.counter
@@ -66,7 +63,7 @@ pub record IsOrder (o : Order) : Type 0 where
 pub record IsFit (e : EimState) : Type 0 where
   pub id : IsEimId e.id
   pub eid : IsEid e.eid
-  pub bound : IfSome e.bound IsBound
+  pub bound : IfSome e.bound IsBinding
   pub orders : Every IsOrder e.orders
 
 -- the invariant of all lines
@@ -94,10 +91,6 @@ sent_more h u (up.Refused f) s = s
 pub sent_grown : (h : History) (o : Option CardUnit) (m : ToEim) → IsSent (forms h) m → IsSent (forms (grown o h)) m
 sent_grown h None m s = s
 sent_grown h (Some u) m s = sent_more h u m s
-
-more_legal : (h : History) (u : CardUnit) → IsLegal h → May h u → IsLegal (with_unit h u)
-unfolding IsLegal IsLegalFrom with_unit
-more_legal h u l m = (l, m)
 
 more_fresh : (h : History) (u : CardUnit) → h.start.card.results.pending ≡ [] → (with_unit h u).start.card.results.pending ≡ []
 unfolding with_unit

@@ -1,7 +1,7 @@
 -- Which choices a line leaves.
 use Rattle.std.proofs.Common.{◌≡◌, Bool, true, false, ◌∷◌, refl, ◌∙◌, ap, sym, None}
 use Rattle.std.specs.Prelude.{◌&&◌}
-use Rattle.std.proofs.lemmas.Bool.{cond_both, and_parts, or_right, false≢true}
+use Rattle.std.proofs.lemmas.Bool.{cond_both, and_parts, or_right, false≢true, false_from_ne_true}
 use Rattle.chip_port.specs.Seen.{is_due}
 use Rattle.package_codec.specs.Replies.{grown}
 use Rattle.card_store.specs.Holding.{standing}
@@ -24,18 +24,14 @@ some_turn w l =
       },
     )
 
-not_lost : (b : Bool) → (b ≡ true → ⊥) → b ≡ false
-not_lost true f = absurd (f refl)
-not_lost false f = refl
-
-boots_step : (w : SmallWorld) (l : Line) → is_boot l ≡ true → steps_card w l ≡ true
+pub boots_step : (w : SmallWorld) (l : Line) → is_boot l ≡ true → steps_card w l ≡ true
 unfolding steps_card
 boots_step w l e = or_right _ (is_boot l) e
 
 pub no_choice : (w : SmallWorld) (t : Turn) → MayTurn w t → steps_card w t.line ≡ false → (t.lost ≡ false) × (t.taken ≡ false)
 no_choice w t m e = (
-  not_lost t.lost (λ k. false≢true (sym e ∙ m.lost k)),
-  not_lost t.taken (λ k. false≢true (sym e ∙ boots_step w t.line (m.taken k).boot)),
+  false_from_ne_true t.lost (λ k. false≢true (sym e ∙ m.lost k)),
+  false_from_ne_true t.taken (λ k. false≢true (sym e ∙ boots_step w t.line (m.taken k).boot)),
 )
 
 lit_woken : (w : SmallWorld) (taken : Bool) → attempt w.marks ≡ None → woken taken w ≡ w.history

@@ -1,7 +1,7 @@
 -- Whether a turn is one that its line leaves, as a test.
-use Rattle.std.proofs.Common.{◌≡◌, Bool, true, false, not, List, [], ◌∷◌, refl}
+use Rattle.std.proofs.Common.{◌≡◌, Bool, true, false, not, List, [], ◌∷◌}
 use Rattle.std.specs.Prelude.{◌&&◌, ◌||◌, is_some}
-use Rattle.std.proofs.lemmas.Bool.{and_parts, false≢true}
+use Rattle.std.proofs.lemmas.Bool.{and_parts, false≢true, not-true}
 use Rattle.chip_port.specs.Seen.{is_due}
 use Rattle.small_world.specs.Examples.{MayPlay}
 use Rattle.small_world.specs.Runs.{Turn, is_boot, steps_card, MayTake, MayTurn, after_turn}
@@ -15,10 +15,6 @@ implies a b = not a || b
 implied : (a b : Bool) → implies a b ≡ true → a ≡ true → b ≡ true
 implied true b e k = e
 implied false b e k = absurd (false≢true k)
-
-not_yes : (b : Bool) → not b ≡ true → b ≡ false
-not_yes true e = absurd (false≢true e)
-not_yes false e = refl
 
 abbrev pub may_take : SmallWorld → Turn → Bool
 may_take w t = is_boot t.line && (not w.lit && (is_some (attempt w.marks) && not t.lost))
@@ -35,7 +31,7 @@ takes w t e =
     let a = and_parts (is_boot t.line) (not w.lit && (is_some (attempt w.marks) && not t.lost)) e in
     let b = and_parts (not w.lit) (is_some (attempt w.marks) && not t.lost) a.1 in
     let c = and_parts (is_some (attempt w.marks)) (not t.lost) b.1 in
-    record { boot = a.0; dark = not_yes w.lit b.0; there = c.0; answered = not_yes t.lost c.1 }
+    record { boot = a.0; dark = not-true w.lit b.0; there = c.0; answered = not-true t.lost c.1 }
 
 turns : (w : SmallWorld) (t : Turn) → may_turn w t ≡ true → MayTurn w t
 turns w t e =

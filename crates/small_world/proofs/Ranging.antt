@@ -4,12 +4,10 @@ use Rattle.std.specs.Prelude.{◌==◌, ◌%◌, IfSome}
 use Rattle.std.proofs.lemmas.Bool.{cond_both}
 use Rattle.small_card.specs.Lists.{Every}
 use Rattle.small_card.specs.Cards.{FullCard}
-use Rattle.small_card.specs.Histories.{History, card_of, full_of, with_unit}
+use Rattle.small_card.specs.Histories.{History, full_of, with_unit}
 use Rattle.small_card.specs.Legal.{IsLegal, IsLegalFrom}
-use Rattle.small_card.specs.Packages.{result_of}
 use Rattle.small_card.specs.Ranges.{IsNumber, IsResult, IsCommand}
 use Rattle.small_card.specs.Units.{CardUnit, initial, load, rollback, remove, has_seq, with_mark}
-use Rattle.small_card.specs.Valid.{IsPending}
 use Rattle.small_card.specs.declared.types.Armed.{Armed}
 use Rattle.small_card.specs.declared.types.Command.{Command}
 use Rattle.small_card.specs.declared.types.Package.{Package}
@@ -17,7 +15,7 @@ use Rattle.small_card.specs.declared.types.PackageResult.{PackageResult}
 use Rattle.small_card.proofs.ListLemmas.{every_mono, every_append, every_map}
 use Rattle.small_card.proofs.Validity.{legal_valid}
 use Rattle.package_codec.proofs.Packages.{signed_few}
-use Rattle.package_codec.proofs.Replying.{loaded_pending}
+use Rattle.package_codec.proofs.Replying.{result_fits}
 use Rattle.esipa_codec.specs.Assistant.{push, message, probe, act_of, failures}
 use Rattle.esipa_codec.specs.Eims.{EimState}
 use Rattle.esipa_codec.specs.Ranges.{IsToEim, IsToIpa}
@@ -38,18 +36,10 @@ use Rattle.small_world.specs.Runs.{given, brought, ordered_by}
 use Rattle.small_world.specs.Worlds.{SmallWorld}
 use Rattle.small_world.specs.declared.reply.Reply.{Reply}
 use Rattle.small_world.proofs.Commanding.{spelled_octets}
-use Rattle.small_world.proofs.HasLemmas.{has_every, every_last}
+use Rattle.small_world.proofs.HasLemmas.{has_every}
 use Rattle.small_world.proofs.Invariant.{IsSent, IsSpelled, IsAnswered, IsTrue, KeepsWorld}
 use Rattle.small_world.proofs.Keeping.{IsAcked, Truthful}
 use Rattle.small_world.proofs.Running.{picked_every}
-
--- a load's result is pending after it, so it is in range
-loaded_fits : (h : History) (p : Package) → IsLegal (with_unit h (load p)) → IsResult (result_of (card_of h) p)
-unfolding full_of
-loaded_fits h p l =
-    let v = (legal_valid (with_unit h (load p)) l).card.results in
-    let next : ℕ = (card_of (with_unit h (load p))).results.next in
-    (every_last (IsPending next) (card_of h).results.pending (result_of (card_of h) p) (subst (Every (IsPending next)) (loaded_pending h p) v.each)).result
 
 marked_fits : (o : Option Armed) (next : ℕ) (r : PackageResult) → IsNumber next → IsResult r → IsResult (remarked o next r)
 unfolding remarked
@@ -67,7 +57,7 @@ more_legal h u l = l.0
 renewed_fits : (h : History) (u : CardUnit) (ns : List PackageResult) → IsLegal (with_unit h u) → Every IsResult ns → Every IsResult (renewed (full_of h) u ns)
 unfolding renewed full_of
 renewed_fits h (initial i a k) ns l f = f
-renewed_fits h (load p) ns l f = (loaded_fits h p l, f)
+renewed_fits h (load p) ns l f = (result_fits h p l, f)
 renewed_fits h rollback ns l f = every_map IsResult IsResult (remarked (full_of h).armed (full_of h).card.results.next) (λ r k. marked_fits (full_of h).armed (full_of h).card.results.next r (next_number h (more_legal h rollback l)) k) ns f
 renewed_fits h (remove seq) ns l f = f
 

@@ -6,8 +6,9 @@ use Rattle.iot_schedule.specs.declared.types.Line.TheVariants as line
 use Rattle.small_world.specs.Runs.{Turn, world_after}
 use Rattle.small_world.specs.Worlds.{SmallWorld, enabled_after}
 
--- A line that takes a modem away does so where the list has its place.
-abbrev pub without_taken : Line → List Seen → List Seen
+-- A list of modems, or of what stands for them, after a line: one that takes a modem away does so where the list has
+-- its place.
+abbrev pub without_taken : {A : Type 0} → Line → List A → List A
 without_taken (line.Detach at) ms = if nat_lt at (length ms) then without at ms else ms
 without_taken l ms = ms
 

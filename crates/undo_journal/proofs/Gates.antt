@@ -6,6 +6,7 @@ use Rattle.std.proofs.lemmas.Bool.Decides.{nat_tests}
 use Rattle.std.proofs.lemmas.List.{take-take, drop-drop, drop-take, append-nil}
 use Rattle.chip_port.specs.Rules.{put, Torn}
 use Rattle.chip_port.proofs.Apart.{drop_past, take_before, torn_front, torn_back, torn_middle, torn_get}
+use Rattle.std.proofs.lemmas.Bool.{cases_Bool}
 use Rattle.undo_journal.specs.Steps.{spelled, directory_of}
 use Rattle.undo_journal.specs.Home.{numbers, count_of, entries, rises, is_well_formed, put_back, kept, same_octets, magic, has_magic, is_open, home_in, home, AreBlocks}
 use Rattle.undo_journal.specs.States.{Has, Lists, Keeps, IsRecorded, IsOpenOver}
@@ -94,10 +95,6 @@ pub home_magic : (image blocks : List ℕ) → home image ≡ Some blocks → ha
 unfolding home
 home_magic image blocks e = where_true (has_magic image) _ blocks e
 
-bool_cases : (b : Bool) → (b ≡ true) ⊎ (b ≡ false)
-bool_cases true = inl refl
-bool_cases false = inr refl
-
 lists_as : (blocks d i : List ℕ) → take 1536 (drop 512 i) ≡ take 1536 (drop 512 d) → Lists blocks (take 1536 (drop 512 d)) → Lists blocks (take 1536 (drop 512 i))
 lists_as blocks d i same l = subst (λ (x : List ℕ). Lists blocks x) (sym same) l
 
@@ -124,7 +121,7 @@ opening blocks before d i are r t =
     let old = kept blocks before in
     let same : drop 174336 i ≡ before = torn_back 256 1 174336 d i (omega arith) t ∙ r.home in
     let keeps = keeps_torn blocks old d i t r.keeps in
-    elim (bool_cases (get_or i 256 0 == 165)) [
+    elim (cases_Bool (get_or i 256 0 == 165)) [
       | inl opens ↦
           home_open blocks old i are keeps opens
           ∙ ap (λ (l : List ℕ). Some (put_back blocks old l)) same
@@ -137,7 +134,7 @@ pub closing : (blocks old before d i : List ℕ) → AreBlocks blocks → IsOpen
 closing blocks old before d i are o t =
     let same : drop 174336 i ≡ drop 174336 d = torn_back 256 1 174336 d i (omega arith) t in
     let keeps = keeps_torn blocks old d i t o.keeps in
-    elim (bool_cases (get_or i 256 0 == 165)) [
+    elim (cases_Bool (get_or i 256 0 == 165)) [
       | inl opens ↦ inl (
           home_open blocks old i are keeps opens
           ∙ ap (λ (l : List ℕ). Some (put_back blocks old l)) same

@@ -1,12 +1,12 @@
 -- Keeping old blocks, and opening the gate.
-use Rattle.std.proofs.Common.{◌≡◌, ◌⊎◌, inl, inr, ℕ, zero, suc, ◌+◌, ◌-◌, ◌*◌, ◌<◌, ◌≤◌, true, false, List, [], ◌∷◌, ◌++◌, length, take, drop, get_or, refl, sym, ◌∙◌, ap, subst, arith, length-drop, length-take, length-append, add-one, append_assoc}
+use Rattle.std.proofs.Common.{◌≡◌, ◌⊎◌, inl, inr, ℕ, zero, suc, ◌+◌, ◌-◌, ◌*◌, ◌<◌, ◌≤◌, true, false, List, [], ◌∷◌, ◌++◌, length, take, drop, get_or, refl, sym, ◌∙◌, ap, subst, arith, length-drop, length-append, add-one, append_assoc}
 use Rattle.std.specs.Prelude.{Some, ◌==◌, Bool, Result, is_ok}
 use Rattle.chip_port.specs.Seen.{Seen}
 use Rattle.chip_port.specs.Runs.{Ran}
 use Rattle.chip_port.proofs.Runs.{ran_none, ran_write, ran_then, ran_most}
 use Rattle.std.proofs.lemmas.Bool.{cases_order}
 use Rattle.std.proofs.lemmas.Grind.{common_steps}
-use Rattle.std.proofs.lemmas.List.{take-take, drop-drop, drop-take, take_at, append-nil}
+use Rattle.std.proofs.lemmas.List.{take-take, drop-drop, drop-take, take_at, append-nil, length-take-le}
 use Rattle.chip_port.specs.PastLaws.{torn_put}
 use Rattle.chip_port.specs.Rules.{put, Torn, HasCause, IfTold, Written}
 use Rattle.chip_port.proofs.Apart.{drop_put, take_before, torn_front, torn_back, torn_get, range_apart}
@@ -38,16 +38,13 @@ gate_raised blocks before r x are rec is =
 pub region_before : (a n to : ℕ) (octets r : List ℕ) → a + n ≤ to → to ≤ length r → take n (drop a (put r to octets)) ≡ take n (drop a r)
 region_before a n to octets r le in_r = sym (drop-take a n (put r to octets)) ∙ ap (λ (l : List ℕ). drop a l) (take_before (a + n) to octets r le in_r) ∙ drop-take a n r
 
-length_first : (n : ℕ) (x : List ℕ) → n ≤ length x → length (take n x) ≡ n
-length_first n x le = grind (arith, common_steps)
-
 -- a range that ends with them
 pub region_next : (a n to m : ℕ) (octets r : List ℕ) → to ≡ a + n → m ≡ n + length octets → to + length octets ≤ length r → take m (drop a (put r to octets)) ≡ take n (drop a r) ++ octets
 region_next a n to m octets r is whole le =
     let y = drop a r in
     let there : to - a ≡ n = omega arith in
     let room : n ≤ length y = omega (arith, length-drop a r) in
-    let len : length (take n y ++ octets) ≡ m = length-append (take n y) octets ∙ ap (λ (k : ℕ). k + length octets) (length_first n y room) ∙ sym whole in
+    let len : length (take n y ++ octets) ≡ m = length-append (take n y) octets ∙ ap (λ (k : ℕ). k + length octets) (length-take-le n y room) ∙ sym whole in
     ap (λ (l : List ℕ). take m l) (drop_put a to octets r (omega arith) (omega arith) ∙ ap (λ (k : ℕ). put y k octets) there)
     ∙ take_at (take n y ++ octets) (drop (n + length octets) y) m len
 
@@ -78,10 +75,6 @@ kept_one r0 r r' bs k size lt few below same now so_far =
 
 take_whole : (bs : List ℕ) (k : ℕ) → length bs ≤ k → take k bs ≡ bs
 take_whole bs k le = grind (arith, common_steps)
-
-length_kept : (bs h : List ℕ) → length (kept bs h) ≤ 256 * length bs
-length_kept [] h = omega arith
-length_kept (b ∷ bs) h = omega (arith, length-append (take 256 (drop (256 * b) h)) (kept bs h), length-take 256 (drop (256 * b) h), length_kept bs h)
 
 -- all are kept, behind the closed gate
 pub recorded_all : (r0 r bs : List ℕ) (k : ℕ) → AreBlocks bs → length r0 ≡ 346624 → has_magic r0 ≡ true → is_open r0 ≡ false → Torn 512 173824 r0 r → k ≡ length bs

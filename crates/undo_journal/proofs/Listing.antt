@@ -1,5 +1,5 @@
 -- What a directory lists.
-use Rattle.std.proofs.Common.{◌≡◌, inl, inr, ℕ, zero, suc, ◌+◌, ◌-◌, ◌*◌, ◌<◌, ◌≤◌, Bool, true, false, List, [], ◌∷◌, ◌++◌, length, take, drop, get_or, refl, sym, ◌∙◌, ap, subst, arith, length-drop, add-one}
+use Rattle.std.proofs.Common.{◌≡◌, inl, inr, ℕ, zero, suc, ◌+◌, ◌-◌, ◌*◌, ◌<◌, ◌≤◌, Bool, true, false, List, [], ◌∷◌, length, take, drop, get_or, refl, sym, ◌∙◌, ap, subst, arith, length-drop, add-one}
 use Rattle.std.specs.Prelude.{ltb, leb, nat_lt, ◌&&◌}
 use Rattle.std.proofs.lemmas.Grind.{common_steps}
 use Rattle.std.proofs.lemmas.Bool.{leb-true}
@@ -90,17 +90,6 @@ well_formed_lists directory size fit =
     let high : count_of directory ≤ 673 = leb-true _ _ counts.1 in
     let len : length (entries directory) ≡ count_of directory = length-entries directory (omega arith) in
     (record { some = omega arith; few = omega arith; rising = parts.1 }, record { counted = sym len; listed = refl })
-
--- a list that rises goes on rising with a number above all of it
-pub rises-push : (bs : List ℕ) (b : ℕ) → rises bs ≡ true → ((c : ℕ) → Has c bs → c < b) → b < 673 → rises (bs ++ b ∷ []) ≡ true
-rises-push [] b r above below = grind (arith, nat_tests)
-rises-push (c ∷ []) b r above below =
-    let up : ltb c b ≡ true = (let lt = above c (inl refl) in grind (arith, nat_tests)) in
-    let last : ltb b 673 ≡ true = grind (arith, nat_tests) in
-    rw (up, last) refl
-rises-push (c ∷ d ∷ bs) b r above below =
-    let parts = and_split (ltb c d) (rises (d ∷ bs)) r in
-    rw (parts.0, rises-push (d ∷ bs) b parts.1 (λ e has. above e (inr has)) below) refl
 
 pub has_at : (bs : List ℕ) (k : ℕ) → k < length bs → Has (get_or bs k 0) bs
 has_at [] k lt = absurd (omega arith)

@@ -1,7 +1,7 @@
 -- What is put back.
 use Rattle.std.proofs.Common.{◌≡◌, ◌⊎◌, inl, inr, ℕ, ◌+◌, ◌-◌, ◌*◌, ◌<◌, ◌≤◌, List, [], ◌∷◌, ◌++◌, length, take, drop, refl, sym, ◌∙◌, ap, subst, arith, append_assoc, length-drop}
 use Rattle.std.proofs.lemmas.Grind.{common_steps}
-use Rattle.std.proofs.lemmas.List.{take-append-drop, drop-drop, take_at, drop_at}
+use Rattle.std.proofs.lemmas.List.{take-append-drop, drop-drop, take_at, drop_at, length-take-le}
 use Rattle.chip_port.specs.Rules.{put, Torn}
 use Rattle.chip_port.specs.PastLaws.{length-put}
 use Rattle.chip_port.proofs.Apart.{take_before, drop_put, take_put, drop_past}
@@ -12,9 +12,6 @@ use Rattle.undo_journal.specs.States.{Has}
 abbrev pub From : ℕ → List ℕ → Type 0
 From n [] = Unit {0}
 From n (b ∷ bs) = (n ≤ b) × (b < 673) × From (b + 1) bs
-
-pub length_front : (n : ℕ) (x : List ℕ) → n ≤ length x → length (take n x) ≡ n
-length_front n x le = grind (arith, common_steps)
 
 pub length_part : (n at : ℕ) (x : List ℕ) → at + n ≤ length x → length (take n (drop at x)) ≡ n
 length_part n at x le = grind (arith, common_steps)
@@ -67,10 +64,10 @@ put_back_kept n (b ∷ bs) home more f size =
 pub put_back_torn : (n block : ℕ) (blocks old a b : List ℕ) → From n blocks → Has block blocks → length a ≡ 172288 → 256 * length blocks ≤ length old → Torn (256 * block) 256 a b → put_back blocks old b ≡ put_back blocks old a
 put_back_torn n block [] old a b f has size room t = absurd has
 put_back_torn n block (c ∷ cs) old a b f (inl e) size room t =
-    let len : length (take 256 old) ≡ 256 = length_front 256 old (omega (arith, room)) in
+    let len : length (take 256 old) ≡ 256 = length-take-le 256 old (omega (arith, room)) in
     ap (λ (h : List ℕ). put_back cs (drop 256 old) h) (put_torn (256 * c) (take 256 old) a b (subst (λ (k : ℕ). Torn (256 * c) k a b) (sym len) (subst (λ (k : ℕ). Torn (256 * k) 256 a b) e t)))
 put_back_torn n block (c ∷ cs) old a b f (inr has) size room t =
-    let len : length (take 256 old) ≡ 256 = length_front 256 old (omega (arith, room)) in
+    let len : length (take 256 old) ≡ 256 = length-take-le 256 old (omega (arith, room)) in
     let above = has_above (c + 1) block cs f.2 has in
     let fits : 256 * c + length (take 256 old) ≤ length a = omega (arith, len, size, f.1) in
     put_back_torn (c + 1) block cs (drop 256 old) (put a (256 * c) (take 256 old)) (put b (256 * c) (take 256 old)) f.2 has (length-put a (256 * c) (take 256 old) fits ∙ size)

@@ -1,12 +1,12 @@
 -- What recovery finds, and how far it has come.
-use Rattle.std.proofs.Common.{◌≡◌, ℕ, suc, ◌+◌, ◌-◌, ◌*◌, ◌<◌, ◌≤◌, true, false, List, [], ◌∷◌, length, take, drop, get_or, refl, sym, ◌∙◌, ap, subst, arith, length-drop, length-take, add-one}
+use Rattle.std.proofs.Common.{◌≡◌, ℕ, suc, ◌+◌, ◌-◌, ◌*◌, ◌<◌, ◌≤◌, true, false, List, ◌∷◌, length, take, drop, get_or, refl, sym, ◌∙◌, ap, subst, arith, length-drop, length-take, add-one}
 use Rattle.std.specs.Prelude.{Some, None}
-use Rattle.std.proofs.lemmas.Grind.{common_steps}
 use Rattle.std.proofs.lemmas.List.{take-take, drop-drop, drop-take}
 use Rattle.std.proofs.Math.Seq.{drop-cons}
 use Rattle.chip_port.specs.Seen.{Seen}
 use Rattle.chip_port.specs.Rules.{put, Sound}
 use Rattle.chip_port.proofs.Apart.{drop_put}
+use Rattle.std.proofs.Math.ListN.{drop_of_length-le}
 use Rattle.undo_journal.specs.Home.{entries, put_back, has_magic, is_open, directory_in, home_in, home, is_well_formed, AreBlocks}
 use Rattle.undo_journal.specs.States.{Lists, EachOf, IsOpenOver}
 use Rattle.undo_journal.specs.Steps.{IsFound}
@@ -45,12 +45,9 @@ put_back_one bs old r r' before e b lt is below size copies now so_far =
     ∙ ap (λ (l : List ℕ). put_back l (drop (256 * e) old) (drop 174336 r)) (sym first)
     ∙ so_far
 
-drop_none : (bs : List ℕ) (e : ℕ) → length bs ≤ e → drop e bs ≡ []
-drop_none bs e le = grind (arith, common_steps)
-
 -- all are put back
 pub put_back_all : (bs old h before : List ℕ) (e : ℕ) → length bs ≤ e → put_back (drop e bs) (drop (256 * e) old) h ≡ before → h ≡ before
-put_back_all bs old h before e le is = ap (λ (l : List ℕ). put_back l (drop (256 * e) old) h) (sym (drop_none bs e le)) ∙ is
+put_back_all bs old h before e le is = ap (λ (l : List ℕ). put_back l (drop (256 * e) old) h) (sym (drop_of_length-le bs le)) ∙ is
 
 -- how long the directory is
 length-directory_part : (d : List ℕ) → length d ≡ 346624 → length (take 1536 (drop 512 d)) ≡ 1536

@@ -6,9 +6,6 @@ use Rattle.chip_port.specs.Seen.{Seen}
 use Rattle.chip_port.specs.PastLaws.{torn_same}
 use Rattle.chip_port.specs.Rules.{Only, Torn, put, Written, Synced}
 
-pub torn_only : (at n : ℕ) (s : Seen) → Only s.reads s.leaves → (d i : List ℕ) → s.leaves d → Torn at n d i → Torn at n s.reads i
-torn_only at n s only d i was torn = subst (λ (l : List ℕ). Torn at n l i) (only d was) torn
-
 pub none_only : (at n : ℕ) (s : Seen) → Only s.reads s.leaves → (i : List ℕ) → s.leaves i → Torn at n s.reads i
 none_only at n s only i was = subst (λ (l : List ℕ). Torn at n s.reads l) (sym (only i was)) (torn_same at n s.reads)
 
@@ -38,10 +35,6 @@ torn_inside image at n d i le ge was torn = torn_then 512 173824 image d i was (
 pub written_done : {T E : Type 0} {at : ℕ} {octets : List ℕ} {b c : Seen} (r : Result T E) → Written at octets b c r → is_ok r ≡ true → c.reads ≡ put b.reads at octets
 written_done (Ok y) w ok = w.done
 written_done (Err y) w ok = absurd (cc ok)
-
-pub synced_done : {T E : Type 0} {b c : Seen} (r : Result T E) → Synced b c r → is_ok r ≡ true → Only c.reads c.leaves
-synced_done (Ok y) s ok = λ i now. s.done i now ∙ sym s.reads
-synced_done (Err y) s ok = absurd (cc ok)
 
 -- what holds where the test says so holds of a success
 pub where_ok : {T E : Type 0} (r : Result T E) (P : Type 0) → (is_ok r ≡ true → P) → OnOk r P

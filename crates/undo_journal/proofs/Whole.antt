@@ -9,7 +9,7 @@ use Rattle.undo_journal.specs.declared.recovery.RecoverEnd.TheVariants.{Failed, 
 use Rattle.undo_journal.specs.Home.{same_octets, magic, home, home_in, is_open, gate_of}
 use Rattle.undo_journal.specs.States.{IsIdle}
 use Rattle.undo_journal.specs.Recover.{IfForeign, IfNoMemory, WritesNothing, NoHome, Recovered, ClosedGate, Recovers}
-use Rattle.undo_journal.specs.Steps.{Begins, IsFound, RollsBack}
+use Rattle.undo_journal.specs.Steps.{Begins, RollsBack}
 use Rattle.undo_journal.proofs.Gates.{home_shut}
 
 -- what a cut may leave counts as left
@@ -61,14 +61,6 @@ begun_shut a b told law s =
         home_is = ap home same;
       };
     }
-
--- what is found behind the open gate
-pub found_open : (a b : Seen) → Begins (Ok true) a b → IsFound b
-found_open a b s = record {
-  settled = s.found.settled;
-  front = ap (λ (l : List ℕ). same_octets (take 8 l) magic) s.found.same ∙ s.found.front;
-  opened = ap (λ (l : List ℕ). get_or l 256 0 == 165) s.found.same ∙ sym s.found.gate;
-}
 
 never : {T : Type 0} (r : Result T RecoverEnd) (P : Type 0) → IfNoMemory r ⊥ → IfNoMemory r P
 never (Ok x) P h = tt

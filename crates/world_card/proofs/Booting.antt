@@ -1,22 +1,21 @@
 -- What a power cycle makes of the world that a card and its bench stand for.
-use Rattle.std.proofs.Common.{◌≡◌, ◌⊎◌, ⊎_elim, inl, inr, ℕ, ◌+◌, ◌-◌, ◌^◌, ◌≤◌, min, max, Bool, true, false, cond, List, [], ◌∷◌, length, Option, Some, None, Result, Ok, Err, refl, sym, ◌∙◌, ap, subst, arith}
+use Rattle.std.proofs.Common.{◌≡◌, ◌⊎◌, ⊎_elim, inl, inr, ℕ, ◌+◌, ◌≤◌, Bool, true, false, cond, List, ◌∷◌, Option, Some, None, Ok, Err, refl, sym, ◌∙◌, ap, subst, arith}
 use Rattle.std.specs.Prelude.{IfSome, IsSome, leb}
 use Rattle.std.proofs.lemmas.Bool.{false≢true}
-use Rattle.std.proofs.lemmas.Grind.{common_steps}
 use Rattle.std.proofs.lemmas.Bool.Decides.{nat_tests}
 use Rattle.iot_bytes.specs.Causes.{Rose}
 use Rattle.chip_port.specs.Seen.{Seen, Tally, Marks, no_plan, is_due, up}
-use Rattle.chip_port.specs.Rules.{Untouched, Sound, Woken, HasCause, Elapses, Same, woken as woken_marks}
+use Rattle.chip_port.specs.Rules.{Untouched, Sound, Woken, HasCause, woken as woken_marks}
 use Rattle.chip_port.specs.Runs.{Ran, Went, Smooth}
 use Rattle.small_card.specs.Cards.{FullCard}
 use Rattle.small_card.specs.Histories.{History, full_of, with_unit}
-use Rattle.small_card.specs.Legal.{IsLegal, IsLegalFrom, May}
+use Rattle.small_card.specs.Legal.{IsLegal, May}
 use Rattle.small_card.specs.Units.{CardUnit}
 use Rattle.undo_journal.specs.Home.{is_open}
 use Rattle.package_codec.specs.Replies.{grown}
 use Rattle.card_store.specs.Standing.{Stands, IsSettled}
-use Rattle.card_store.specs.Loading.{StandsAs, IsAsBefore}
-use Rattle.card_store.specs.Holding.{Mark, Holds, IsHeld, StandsAt, followed, standing}
+use Rattle.card_store.specs.Loading.{StandsAs}
+use Rattle.card_store.specs.Holding.{Mark, Holds, StandsAt, followed, standing}
 use Rattle.card_store.proofs.Cards.{stands_for_one}
 use Rattle.card_store.proofs.Holding.{loss_held}
 use Rattle.euicc_core.specs.Answers.{Answers}
@@ -26,11 +25,11 @@ use Rattle.euicc_core.proofs.Kept.{opening_held, marks_kept}
 use Rattle.small_world.specs.Stepping.{attempt, woken, booted}
 use Rattle.small_world.specs.Stretches.{is_far}
 use Rattle.small_world.specs.Worlds.{SmallWorld, Plan}
-use Rattle.small_world.proofs.Choosing.{attempt_may}
-use Rattle.world_card.specs.Benches.{HoldsWorld, IsPowered, IsOnBench, IsNewest, IsSound, held_in}
+use Rattle.small_card.proofs.Validity.{more_legal}
+use Rattle.world_card.specs.Benches.{HoldsWorld, IsOnBench, IsNewest, IsSound}
 use Rattle.world_card.specs.declared.ends.BootEnd.{BootEnd}
 use Rattle.world_card.specs.declared.ends.BootEnd.TheVariants.{Booted, Lost, Foreign, NoMemory}
-use Rattle.world_card.specs.Boots.{Boots, HasCauseOfBoot, Reopens, IsBooted, IsLostBoot, IsShortBoot, IsWokenFor, MayTakeAttempt}
+use Rattle.world_card.specs.Boots.{Boots, HasCauseOfBoot, Reopens, IsBooted, IsLostBoot, IsBefore, IsWokenFor}
 use Rattle.world_card.specs.Counts.{Counted, KeepsPast, answered_fate, lost_fate, short_fate}
 use Rattle.world_card.proofs.Counting.{answered_counted, lost_counted, ran_counted, dropped_counted, since, IsSameCount, same_past}
 use Rattle.world_card.proofs.Standing.{held_at, untouched_world}
@@ -113,13 +112,9 @@ chosen h (Some u) card i at stands =
     (λ was. record { taken = false; there = λ is. absurd (false≢true is); choice = None; either = inl refl; follows = refl; is = stands_for_one card (full_of h) i stands was })
     (λ was. record { taken = true; there = λ is. refl; choice = Some u; either = inr refl; follows = refl; is = stands_for_one card (full_of (with_unit h u)) i stands was }) at
 
-with_legal : (h : History) (u : CardUnit) → IsLegal h → May h u → IsLegal (with_unit h u)
-unfolding IsLegal IsLegalFrom with_unit
-with_legal h u l m = (l, m)
-
 grown_legal : (h : History) (o : Option CardUnit) → IsLegal h → IfSome o (May h) → IsLegal (grown o h)
 grown_legal h None l m = l
-grown_legal h (Some u) l m = with_legal h u l m
+grown_legal h (Some u) l m = more_legal h u l m
 
 woken_legal : (w : SmallWorld) (taken : Bool) → IsSound w → IsLegal (woken taken w)
 woken_legal w true s = grown_legal w.history (attempt w.marks) s.legal s.tried
@@ -247,7 +242,7 @@ opening_lost first w held s b t u sound plan monotone rose none a o dropped =
     (since (lost_fate (is_far w.plan)) s b t a.same (lost_counted _ w.plan b t a.told a.powered (a.plan ∙ plan) monotone rose r))
 
 -- memory ran out in the opening
-opening_short : (first : ℕ) (w : SmallWorld) (s b t u : Seen) → IsSound w → HoldsWorld first s w → IsAwake first w s b → Opens (Err open_end.NoMemory) b t → Untouched no_plan t u → IsShortBoot first w s u
+opening_short : (first : ℕ) (w : SmallWorld) (s b t u : Seen) → IsSound w → HoldsWorld first s w → IsAwake first w s b → Opens (Err open_end.NoMemory) b t → Untouched no_plan t u → IsBefore first w s u
 unfolding Went
 opening_short first w s b t u sound h a o dropped =
     let r = unopened_ran first w true s b t a o.0 in

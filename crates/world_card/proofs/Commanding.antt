@@ -1,9 +1,9 @@
 -- What a command makes of the world that a card and its bench stand for.
-use Rattle.std.proofs.Common.{◌≡◌, ◌⊎◌, inl, inr, ℕ, ◌≤◌, Bool, true, false, cond, List, [], ◌∷◌, length, Option, Some, None, refl, sym, ◌∙◌, ap, subst, arith}
+use Rattle.std.proofs.Common.{◌≡◌, inl, ℕ, ◌≤◌, true, false, cond, List, ◌∷◌, Option, Some, None, refl, sym, ◌∙◌, ap, subst}
 use Rattle.std.specs.Prelude.{IfSome}
 use Rattle.std.proofs.lemmas.Bool.{false≢true}
 use Rattle.iot_bytes.specs.Causes.{Rose}
-use Rattle.chip_port.specs.Seen.{Seen, Tally, Marks, no_plan, is_due}
+use Rattle.chip_port.specs.Seen.{Seen, Tally, no_plan, is_due}
 use Rattle.chip_port.specs.Rules.{Untouched, Sound}
 use Rattle.chip_port.specs.Runs.{Ran}
 use Rattle.small_card.specs.Cards.{FullCard}
@@ -13,31 +13,29 @@ use Rattle.small_card.specs.Ranges.{IsCommand}
 use Rattle.small_card.specs.Units.{CardUnit}
 use Rattle.small_card.specs.declared.types.Answer.{Answer}
 use Rattle.small_card.specs.declared.types.Command.{Command}
-use Rattle.package_codec.specs.Replies.{reply, unit_of, after}
+use Rattle.package_codec.specs.Replies.{unit_of, after}
 use Rattle.package_codec.proofs.InRange.{reads_in_range}
 use Rattle.package_codec.proofs.Replying.{unit_may}
-use Rattle.card_store.specs.Standing.{IsSettled}
-use Rattle.card_store.specs.Looking.{Looks}
 use Rattle.card_store.specs.Holding.{Mark, Holds, StandsAt, standing}
 use Rattle.card_store.proofs.Holding.{loss_held}
 use Rattle.euicc_core.specs.Answers.{Answers}
-use Rattle.euicc_core.specs.Steps.{Steps, ChipSteps, IsReply}
-use Rattle.euicc_core.specs.declared.ends.StepEnd.TheVariants.{Answered, Lost, Dark, NoMemory}
+use Rattle.euicc_core.specs.Steps.{Steps, ChipSteps}
+use Rattle.euicc_core.specs.declared.ends.StepEnd.TheVariants.{Answered, Lost, NoMemory}
 use Rattle.euicc_core.proofs.Kept.{step_held}
 use Rattle.small_world.specs.Stepping.{attempt, tried, commanded, answered_step, lost_step}
 use Rattle.small_world.specs.Stretches.{is_far}
 use Rattle.small_world.specs.Worlds.{SmallWorld, Plan}
 use Rattle.small_world.proofs.HasLemmas.{if_some}
-use Rattle.world_card.specs.Benches.{HoldsWorld, IsPowered, IsOnBench, IsNewest, IsSound, held_in}
-use Rattle.world_card.specs.Commands.{IsAnswered, IsLost, IsIdle, IsShort}
-use Rattle.world_card.specs.Counts.{Counted, answered_fate, lost_fate}
+use Rattle.world_card.specs.Benches.{HoldsWorld, IsOnBench, IsNewest, IsSound}
+use Rattle.world_card.specs.Commands.{IsAnswered, IsLost, IsShort}
+use Rattle.world_card.specs.Counts.{answered_fate, lost_fate}
 use Rattle.world_card.proofs.Counting.{answered_counted, lost_counted, looked_counted, dropped_counted}
 use Rattle.world_card.proofs.Standing.{held_at, untouched_world, looked_world, lit_held}
 
 -- a command to a lit card
-answered_is : (c : Command) (w : SmallWorld) → w.lit ≡ true → commanded c false w ≡ answered_step c w
+pub commanded_lit : (c : Command) (w : SmallWorld) → w.lit ≡ true → commanded c false w ≡ answered_step c w
 unfolding commanded
-answered_is c w lit = ap (λ b. cond b (answered_step c w) w) lit
+commanded_lit c w lit = ap (λ b. cond b (answered_step c w) w) lit
 
 lost_is : (c : Command) (w : SmallWorld) → w.lit ≡ true → commanded c true w ≡ lost_step c w
 unfolding commanded
@@ -83,7 +81,7 @@ command_answered first w c a held now s t u before after_it stands lit chip step
     let at = lit_held w held stands.held_is lit in
     let ends = (chip h stands.sound.legal at).ends in
     let r = steps h stands.sound.legal at in
-    let is = answered_is c w lit in
+    let is = commanded_lit c w lit in
     let world = answered_world first w c s t before after_it stands.sound lit stands.bench ends in
     record {
       lit = lit;

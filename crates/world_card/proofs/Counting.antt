@@ -1,20 +1,37 @@
 -- What the calls of a card do to the counts of its bench.
-use Rattle.std.proofs.Common.{◌≡◌, ◌⊎◌, ⊎_elim, inl, inr, ℕ, ◌+◌, ◌-◌, ◌^◌, ◌≤◌, min, Bool, true, false, cond, nat_eq, List, Option, Some, None, refl, sym, ◌∙◌, ap, subst, arith}
-use Rattle.std.proofs.lemmas.Grind.{common_steps}
+use Rattle.std.proofs.Common.{◌≡◌, ◌⊎◌, ⊎_elim, inl, inr, ℕ, ◌+◌, ◌≤◌, Bool, true, false, cond, nat_eq, List, Option, Some, None, refl, sym, ◌∙◌, ap, subst, arith}
 use Rattle.std.proofs.lemmas.Bool.{false≢true}
 use Rattle.std.proofs.lemmas.Bool.Decides.{nat_tests}
 use Rattle.iot_bytes.specs.Causes.{Rose}
-use Rattle.chip_port.specs.declared.chip.Tear.{Tear}
 use Rattle.chip_port.specs.Seen.{Seen, Tally, Marks, no_plan, up}
 use Rattle.chip_port.specs.Rules.{Untouched, answered}
 use Rattle.chip_port.specs.Runs.{Ran, Ended, Went, Smooth, Broke, LetsPass}
 use Rattle.card_store.specs.Looking.{Looks}
 use Rattle.small_world.specs.Stretches.{Fate, is_far}
 use Rattle.small_world.specs.Worlds.{Plan}
-use Rattle.world_card.specs.Counts.{Counted, HasLost, IsMarkedNow, KeepsPast, answered_fate, lost_fate, short_fate}
+use Rattle.world_card.specs.Counts.{Counted, IsMarkedNow, KeepsPast, answered_fate, lost_fate, short_fate}
 
 pub same_past : (m : Marks) → KeepsPast m m
 same_past m n le = (refl, refl, refl)
+
+-- nothing was counted, whatever the line may cost
+pub still : (far costly : Bool) (s : Seen) → Counted (record { lost = false; unplanned = far; marked = false; costly = costly; planned = false }) s s
+still far costly s = record {
+  told = refl;
+  faults = omega arith;
+  cuts = omega arith;
+  breaks = omega arith;
+  uses = omega arith;
+  most = omega arith;
+  plans = refl;
+  lost = λ is. absurd (false≢true is);
+  answers = refl;
+  now = λ is. absurd (false≢true is);
+  past = same_past s.marks;
+}
+
+pub idle_counted : (far : Bool) (s : Seen) → Counted (short_fate far) s s
+idle_counted far s = still far true s
 
 -- an answer marks its own place and leaves those before
 answered_past : (t : Tally) (m : Marks) → KeepsPast m (answered t m)

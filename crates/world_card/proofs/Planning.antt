@@ -1,5 +1,5 @@
 -- What a planned cut makes of the world that a card and its bench stand for.
-use Rattle.std.proofs.Common.{◌≡◌, inl, inr, ℕ, ◌+◌, ◌≤◌, Bool, true, false, Option, Some, None, Result, Ok, Err, refl, sym, ◌∙◌, ap, subst, arith}
+use Rattle.std.proofs.Common.{◌≡◌, ℕ, Bool, true, false, Option, Some, Result, Ok, Err, refl, sym, ◌∙◌, ap, subst, arith}
 use Rattle.std.specs.Prelude.{OnOk, OnErr, if◌then◌else◌}
 use Rattle.std.proofs.lemmas.Bool.{false≢true}
 use Rattle.iot_bytes.specs.declared.memory.NoMemory.{NoMemory}
@@ -11,7 +11,7 @@ use Rattle.small_world.specs.Stretches.{is_far}
 use Rattle.small_world.specs.Worlds.{SmallWorld, Plan}
 use Rattle.world_card.specs.Benches.{HoldsWorld, IsOnBench, IsSound}
 use Rattle.world_card.specs.Counts.{Counted, KeepsPast}
-use Rattle.world_card.specs.Plans.{IsPlanned, Planned}
+use Rattle.world_card.specs.Plans.{Planned}
 use Rattle.world_card.proofs.Counting.{same_past}
 use Rattle.world_card.proofs.Standing.{untouched_world}
 

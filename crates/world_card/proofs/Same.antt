@@ -1,5 +1,5 @@
 -- Worlds of one card, its marks, its power and its plan are stood for alike.
-use Rattle.std.proofs.Common.{◌≡◌, ℕ, Bool, List, Option, sym, subst}
+use Rattle.std.proofs.Common.{ℕ, Bool, List, Option, sym, subst}
 use Rattle.chip_port.specs.Seen.{Seen}
 use Rattle.small_card.specs.Cards.{FullCard}
 use Rattle.small_card.specs.Histories.{History}

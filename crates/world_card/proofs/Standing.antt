@@ -1,7 +1,5 @@
 -- A bench goes on standing for a world where nothing but its plan changes.
-use Rattle.std.proofs.Common.{◌≡◌, ◌⊎◌, inl, inr, ℕ, ◌+◌, Bool, true, false, cond, List, [], ◌∷◌, length, Option, Some, None, refl, sym, ◌∙◌, ap, subst, arith}
-use Rattle.std.specs.Prelude.{IfSome, ◌↔◌}
-use Rattle.std.proofs.lemmas.Bool.{false≢true}
+use Rattle.std.proofs.Common.{◌≡◌, ◌⊎◌, ℕ, ◌+◌, Bool, true, false, cond, List, Option, Some, None, refl, sym, ◌∙◌, ap, subst}
 use Rattle.chip_port.specs.Seen.{Seen, Tally, Marks}
 use Rattle.chip_port.specs.Rules.{Untouched, Same, Keeps}
 use Rattle.small_card.specs.Cards.{FullCard}
@@ -10,11 +8,11 @@ use Rattle.small_card.specs.Histories.{History, full_of}
 use Rattle.undo_journal.specs.Home.{is_open}
 use Rattle.card_store.specs.Standing.{Stands, IsSettled}
 use Rattle.card_store.specs.Looking.{Looks}
-use Rattle.card_store.specs.Holding.{Mark, Holds, AreMarked, IsHeld, StandsAt}
+use Rattle.card_store.specs.Holding.{Mark, Holds, IsHeld}
 use Rattle.euicc_core.proofs.Kept.{marks_kept}
 use Rattle.small_world.specs.Stepping.{attempt}
 use Rattle.small_world.specs.Worlds.{SmallWorld}
-use Rattle.world_card.specs.Benches.{HoldsWorld, IsPowered, IsOnBench, IsNewest, IsSound, held_in}
+use Rattle.world_card.specs.Benches.{HoldsWorld, IsNewest, held_in}
 
 settled_as : (f : FullCard) (s t : Seen) → t.reads ≡ s.reads → ((i : List ℕ) → t.leaves i → s.leaves i) → IsSettled f s → IsSettled f t
 settled_as f s t same fewer settled = record {

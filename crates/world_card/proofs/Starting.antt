@@ -1,21 +1,17 @@
 -- What the first line makes of a bench.
-use Rattle.std.proofs.Common.{◌≡◌, ◌⊎◌, ⊎_elim, inl, inr, ℕ, ◌+◌, ◌-◌, ◌^◌, ◌≤◌, min, Bool, true, false, cond, List, [], ◌∷◌, length, Option, Some, None, Ok, Err, refl, sym, ◌∙◌, ap, subst, arith}
+use Rattle.std.proofs.Common.{◌≡◌, ℕ, ◌+◌, ◌≤◌, true, false, List, [], ◌∷◌, Option, Some, None, Err, refl, sym, ◌∙◌, ap, subst}
 use Rattle.std.proofs.lemmas.Bool.{false≢true}
 use Rattle.iot_bytes.specs.Causes.{Rose}
 use Rattle.chip_port.specs.declared.chip.Tear.{Tear}
 use Rattle.chip_port.specs.Seen.{Seen, Tally, Marks, no_plan}
-use Rattle.chip_port.specs.Rules.{Untouched, Sound, Same}
+use Rattle.chip_port.specs.Rules.{Untouched, Sound}
 use Rattle.chip_port.specs.Runs.{Ran, Went, Smooth, Broke, Less, LetsPass}
 use Rattle.small_card.specs.Cards.{FullCard}
 use Rattle.small_card.specs.Fresh.{fresh}
-use Rattle.small_card.specs.Histories.{History, full_of}
-use Rattle.small_card.specs.Legal.{IsLegal, IsLegalFrom}
-use Rattle.small_card.specs.Prefixes.{first_units}
+use Rattle.small_card.specs.Histories.{full_of}
 use Rattle.small_card.specs.Valid.{IsValid}
-use Rattle.small_card.proofs.Prefixes.{first_all}
-use Rattle.small_card.proofs.Validity.{full_start}
-use Rattle.card_store.specs.Standing.{Stands, IsSettled}
-use Rattle.card_store.specs.Holding.{Mark, Holds, standing}
+use Rattle.small_card.proofs.Validity.{full_start, alone_legal}
+use Rattle.card_store.specs.Holding.{Holds, standing}
 use Rattle.card_store.specs.declared.ends.MakeError.{MakeError}
 use Rattle.card_store.specs.declared.ends.MakeError.TheVariants as make
 use Rattle.euicc_core.specs.Answers.{Answers}
@@ -24,9 +20,9 @@ use Rattle.euicc_core.proofs.Kept.{first_held}
 use Rattle.iot_schedule.specs.declared.types.Device.{Device}
 use Rattle.modem_bank.specs.Modems.{Seen as ModemSeen}
 use Rattle.small_world.specs.Stepping.{attempt}
-use Rattle.small_world.specs.Worlds.{SmallWorld, start_world, started}
-use Rattle.world_card.specs.Benches.{HoldsWorld, IsOnBench, IsSound}
-use Rattle.world_card.specs.Counts.{Counted, KeepsPast, answered_fate}
+use Rattle.small_world.specs.Worlds.{start_world, started}
+use Rattle.world_card.specs.Benches.{IsSound}
+use Rattle.world_card.specs.Counts.{KeepsPast, answered_fate}
 use Rattle.world_card.specs.Starts.{IsStarted, IsUnstarted, StartsOn}
 use Rattle.world_card.proofs.Counting.{answered_counted, since, IsSameCount, same_past}
 
@@ -43,14 +39,10 @@ same_count s b d = record {
   past = subst (λ (m : Marks). KeepsPast s.marks m) (sym d.keeps.marks) (same_past s.marks);
 }
 
-start_legal : (f : FullCard) → IsValid f → IsLegal (record { start = f; units = [] })
-unfolding IsLegal IsLegalFrom
-start_legal f v = v
-
 start_sound : (d : Device) (handed_in : List ModemSeen) → IsValid (fresh d.eid d.profiles) → IsSound (start_world d handed_in)
 unfolding start_world started attempt
 start_sound d handed_in v = record {
-  legal = start_legal (fresh d.eid d.profiles) v;
+  legal = alone_legal (fresh d.eid d.profiles) v;
   tried = tt;
   newest = record { mark = standing (record { start = fresh d.eid d.profiles; units = [] }); older = []; newest = refl; whole = refl };
   rests = λ is. refl;
@@ -96,8 +88,9 @@ start_failed P s b t told dropped r =
           (w.early (ap (λ (x : Tally). x.cut) dropped.tally_is ∙ powered) (subst (λ (p : Option (ℕ × Tear)). LetsPass 10000 p) (sym none) tt)).0;
     }
 
-pub start_short : (s b t : Seen) → Untouched no_plan s b → Untouched (λ x. x) b t → Untouched no_plan s t
-start_short s b t d u = record {
+-- a bench that stays as it is, twice, but for its counts
+pub untouched_then : (f g : Tally → Tally) (s b t : Seen) → Untouched f s b → Untouched g b t → Untouched (λ x. g (f x)) s t
+untouched_then f g s b t d u = record {
   told = u.told ∙ d.told;
   faults = u.faults ∙ d.faults;
   keeps = record {
@@ -106,9 +99,9 @@ start_short s b t d u = record {
     marks = u.keeps.marks ∙ d.keeps.marks;
   };
   left = λ n i. (λ was. (u.left n i).0 ((d.left n i).0 was), λ now. (d.left n i).1 ((u.left n i).1 now));
-  tally_is = u.tally_is ∙ d.tally_is;
+  tally_is = u.tally_is ∙ ap g d.tally_is;
 }
 
 pub start_refused : (d : Device) (card : FullCard) (e : MakeError) (s b t : Seen) → s.told ≡ true → Untouched no_plan s b → Personalises card (Err e) b t → StartsOn d (Err e) s t
 start_refused d card make.Failed s b t told dropped p = start_failed _ s b t told dropped p
-start_refused d card make.NoMemory s b t told dropped p = start_short s b t dropped p
+start_refused d card make.NoMemory s b t told dropped p = untouched_then no_plan (λ x. x) s b t dropped p

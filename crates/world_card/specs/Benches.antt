@@ -1,5 +1,5 @@
 -- The worlds that a card and its bench stand for.
-use Rattle.std.specs.Prelude.{◌≡◌, ℕ, Bool, true, false, List, ◌∷◌, length, if◌then◌else◌, Option, Some, None, IfSome}
+use Rattle.std.specs.Prelude.{◌≡◌, ℕ, true, false, List, ◌∷◌, length, if◌then◌else◌, Option, Some, None, IfSome}
 use Rattle.chip_port.specs.Seen.{Seen}
 use Rattle.small_card.specs.Cards.{FullCard}
 use Rattle.small_card.specs.Histories.{History, full_of}

@@ -1,5 +1,5 @@
 -- What a power cycle does to a card on its bench.
-use Rattle.std.specs.Prelude.{◌≡◌, ◌≤◌, ℕ, Bool, true, false, List, Option, Some, None, IsSome, Ok, Err}
+use Rattle.std.specs.Prelude.{◌≡◌, ◌≤◌, ℕ, Bool, true, false, List, Option, Some, IsSome, Ok, Err}
 use Rattle.iot_bytes.specs.Causes.{Rose}
 use Rattle.chip_port.specs.Seen.{Seen, is_due}
 use Rattle.small_card.specs.Cards.{FullCard}
@@ -52,8 +52,8 @@ pub record IsLostBoot (first : ℕ) (w : SmallWorld) (held : Option FullCard) (s
   pub stands : IsOnBench first held t (booted true false w)
   pub counts : Counted (lost_fate (is_far w.plan)) s t
 
--- memory ran out, and the bench holds what it held
-pub record IsShortBoot (first : ℕ) (w : SmallWorld) (s t : Seen) : Type 0 where
+-- memory ran out before a step of the card, and the bench holds what it held
+pub record IsBefore (first : ℕ) (w : SmallWorld) (s t : Seen) : Type 0 where
   pub holds : HoldsWorld first t w
   pub counts : Counted (short_fate (is_far w.plan)) s t
 
@@ -61,7 +61,7 @@ abbrev pub Boots : ℕ → SmallWorld → BootEnd → Option FullCard → Seen �
 Boots first w Booted held s t = IsBooted first w held s t
 Boots first w Lost held s t = IsLostBoot first w held s t
 Boots first w Foreign held s t = ⊥
-Boots first w NoMemory held s t = IsShortBoot first w s t
+Boots first w NoMemory held s t = IsBefore first w s t
 
 -- how the opening of a card ends, after the power came back
 abbrev pub Reopens : BootEnd → Option FullCard → Seen → Seen → Type 0

@@ -1,10 +1,10 @@
 -- What a planned cut does to a card on its bench.
-use Rattle.std.specs.Prelude.{◌≡◌, ℕ, true, false, Option, Some, Result, Ok, Err}
+use Rattle.std.specs.Prelude.{ℕ, true, false, Option, Some, Result, Ok, Err}
 use Rattle.iot_bytes.specs.declared.memory.NoMemory.{NoMemory}
 use Rattle.chip_port.specs.Seen.{Seen}
 use Rattle.chip_port.specs.declared.chip.Tear.{Tear}
 use Rattle.small_card.specs.Cards.{FullCard}
-use Rattle.small_world.specs.Stretches.{Fate, is_far}
+use Rattle.small_world.specs.Stretches.{is_far}
 use Rattle.small_world.specs.Worlds.{SmallWorld}
 use Rattle.world_card.specs.Benches.{IsOnBench}
 use Rattle.world_card.specs.Counts.{Counted}

@@ -1,6 +1,6 @@
 -- Runs over the lines of a schedule: their first line, further ones, and those without losses.
 use Rattle.std.proofs.Common.{◌≡◌, ◌≢◌, ℕ, zero, suc, ◌+◌, Bool, true, false, cond, List, [], ◌∷◌, ◌++◌, length, map, reverse, Option, Some, None, refl, ap, sym, subst, ◌∙◌, append-nil, arith}
-use Rattle.std.proofs.lemmas.Bool.{cond_both, false≢true}
+use Rattle.std.proofs.lemmas.Bool.{cond_both, false≢true, false_from_ne_true}
 use Rattle.std.proofs.lemmas.List.{map-append, reverse-append, flat_map_more}
 use Rattle.iot_schedule.specs.Devices.{device_at}
 use Rattle.iot_schedule.specs.Ranges.{IsDevice, IsStep}
@@ -102,9 +102,6 @@ lossless_at d handed_in ts w fits read comes =
     record { legal = keeps.legal; once = legal_once w.history keeps.legal; none_lost = run_lossless w keeps; made = run_made w keeps }
 
 -- lines that were read are in their ranges
-some_is : (l k : Line) → Some l ≡ Some k → l ≡ k
-some_is l k e = cc
-
 lines_fit : (steps : List (List ℕ)) (lines : List Line) → map step_at steps ≡ map (λ l. Some l) lines → Every IsStep lines
 lines_fit [] [] e = tt
 lines_fit [] (line ∷ lines) e = absurd cc
@@ -190,13 +187,9 @@ none_more : (lost : Bool) (many : ℕ) → cond lost (many + 1) many ≡ 0 → (
 none_more true many e = absurd (omega (arith, e))
 none_more false many e = (refl, e)
 
-never : (b : Bool) → (b ≡ true → ⊥) → b ≡ false
-never true fails = absurd (fails refl)
-never false fails = refl
-
 -- no boot of a lit card takes an attempt
 untaken : (w : SmallWorld) (t : Turn) → MayTurn w t → w.lit ≡ true → t.taken ≡ false
-untaken w t may lit = never t.taken (λ taken. false≢true (sym (may.taken taken).dark ∙ lit))
+untaken w t may lit = false_from_ne_true t.taken (λ taken. false≢true (sym (may.taken taken).dark ∙ lit))
 
 plain : (t : Turn) → t.lost ≡ false → t.taken ≡ false → t ≡ record { line = t.line; lost = false; taken = false }
 plain t kept untaken =
@@ -233,11 +226,11 @@ start_lit d handed_in = refl
 
 -- where a count that isn't zero has a consequence that isn't there, it is zero
 none_without : (n : ℕ) (X : Type 0) → (n ≢ 0 → X) → (X → ⊥) → n ≡ 0
-none_without zero X some never = refl
-none_without (suc n) X some never = absurd (never (some (λ z. absurd (omega (arith, z)))))
+none_without zero X some false_from_ne_true = refl
+none_without (suc n) X some false_from_ne_true = absurd (false_from_ne_true (some (λ z. absurd (omega (arith, z)))))
 
 -- a run of which the bench counted no fault
 pub calm_run : {handed_in : List ModemSeen} {ls : List (List ℕ)} {text : List ℕ} (r : HasRun handed_in ls text) (s t : Seen) → AreCounted s t (fates (start_of r) (turns_of r)) → (Rose s.faults t.faults → ⊥) → IsCalm (start_of r) (turns_of r)
-calm_run {handed_in} {ls} {text} r s t counted never =
+calm_run {handed_in} {ls} {text} r s t counted false_from_ne_true =
     calm_when (start_of r) (turns_of r) (start_lit r.device handed_in) r.run.may
-    (none_without (count_fates (λ f. f.lost) (fates (start_of r) (turns_of r))) (Rose s.faults t.faults) counted.lost never)
+    (none_without (count_fates (λ f. f.lost) (fates (start_of r) (turns_of r))) (Rose s.faults t.faults) counted.lost false_from_ne_true)

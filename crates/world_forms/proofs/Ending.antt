@@ -15,43 +15,22 @@ use Rattle.line_loop.specs.declared.halt.Halt.{Halt}
 use Rattle.line_loop.specs.declared.halt.Halt.TheVariants.{Reading, Handling, Ending, Sending}
 use Rattle.line_loop.specs.Lines.{AreTaken, lines_of}
 use Rattle.line_loop.specs.Runs.{Reason, Concludes, SentFor}
-use Rattle.line_loop.specs.Sends.{stop_line}
 use Rattle.line_loop.specs.Status.{exit_status}
 use Rattle.line_loop.proofs.Taking.{lines_first, lines_short, line_first}
 use Rattle.modem_bank.specs.Modems.{Seen as ModemSeen}
 use Rattle.schedule_forms.specs.Grammar.{AreInGrammar}
-use Rattle.schedule_forms.specs.Schedules.{AreHandled, PassesLimit, IsUnfit}
+use Rattle.schedule_forms.specs.Schedules.{AreHandled}
 use Rattle.schedule_forms.proofs.Ending.{all_lines, has_past}
-use Rattle.schedule_forms.proofs.Stopping.{unfit_breaks, limit_breaks, limit_or_unfit, one_place, whole_goes_on}
+use Rattle.schedule_forms.proofs.Stopping.{HasEnded, StopsBehind, at_limit, at_unfit, ends_well, with_zero, with_five, with_seven}
 use Rattle.world_forms.specs.Courses.{HasRun}
 use Rattle.world_forms.specs.Ends.{IsTextOf, IsDone, IsHindered, EndsWell, HasStopped, StopsWith}
 use Rattle.world_forms.specs.Replays.{EndsReplay, IsReplayed, IsUnbegun, Replayed, Replays, Stops, StopsReplay}
 
--- how the lines of a replay ended
-Outcome : ℕ → List (List ℕ) → List (List ℕ) → List ℕ → Option (List ℕ) → Option (List ℕ) → Type 0
-Outcome status gs u text sent0 sent =
-    ((status ≡ 0) × (gs ≢ []) × (u ≡ [])) ⊎ ((status ≡ 5) × IsUnfit gs u × HasSent sent0 sent (text ++ stop_line 5 (length gs + 1))) ⊎ ((status ≡ 7) × PassesLimit gs u × HasSent sent0 sent (text ++ stop_line 7 (length gs + 1)))
-
-record HasEnded (handed_in : List ModemSeen) (status : ℕ) (input : List ℕ) (sent0 sent : Option (List ℕ)) : Type 0 where
-  lines : List (List ℕ)
-  more : List (List ℕ)
+-- how the lines of a replay ended, and their text
+record HasEndedWith (handed_in : List ModemSeen) (status : ℕ) (input : List ℕ) (sent0 sent : Option (List ℕ)) : Type 0 where
   text : List ℕ
-  parts : lines_of input ≡ lines ++ more
-  handled : AreHandled lines
-  text_of : IsTextOf handed_in lines text
-  outcome : Outcome status lines more text sent0 sent
-
-with_zero : (gs : List (List ℕ)) (text : List ℕ) (sent0 sent : Option (List ℕ)) → gs ≢ [] → Outcome 0 gs [] text sent0 sent
-unfolding Outcome
-with_zero gs text sent0 sent some = inl (refl, some, refl)
-
-with_five : (gs u : List (List ℕ)) (text : List ℕ) (sent0 sent : Option (List ℕ)) → IsUnfit gs u → HasSent sent0 sent (text ++ stop_line 5 (length gs + 1)) → Outcome 5 gs u text sent0 sent
-unfolding Outcome
-with_five gs u text sent0 sent unfit said = inr (inl (refl, unfit, said))
-
-with_seven : (gs u : List (List ℕ)) (text : List ℕ) (sent0 sent : Option (List ℕ)) → PassesLimit gs u → HasSent sent0 sent (text ++ stop_line 7 (length gs + 1)) → Outcome 7 gs u text sent0 sent
-unfolding Outcome
-with_seven gs u text sent0 sent past said = inr (inr (refl, past, said))
+  ended : HasEnded status input text sent0 sent
+  text_of : IsTextOf handed_in ended.lines text
 
 -- the text of lines that were handled
 told_text : (handed_in : List ModemSeen) (s t : Seen) (modems : List ModemSeen) (ls : List (List ℕ)) (text : List ℕ) → IsUnbegun handed_in s t modems ls text ⊎ IsReplayed handed_in s t modems ls text → IsTextOf handed_in ls text
@@ -67,7 +46,7 @@ are_handled ls input tail few taken fit = record { few = few; short = lines_shor
 
 -- the lines ended it, or something hindered it
 Went : List ModemSeen → Seen → Seen → List ModemSeen → List ℕ → Option (List ℕ) → Option (List ℕ) → ℕ → Type 0
-Went handed_in s t modems input sent0 sent status = HasEnded handed_in status input sent0 sent ⊎ IsHindered handed_in s t modems (lines_of input) status
+Went handed_in s t modems input sent0 sent status = HasEndedWith handed_in status input sent0 sent ⊎ IsHindered handed_in s t modems (lines_of input) status
 
 halted : (handed_in : List ModemSeen) (s t : Seen) (modems : List ModemSeen) (rest0 rest sent0 sent : Option (List ℕ)) (input : List ℕ) (ls : List (List ℕ)) (text closing : List ℕ) (halt : Halt) (ended : Result (Unit {0}) SendStop) → s.told ≡ true → rest0 ≡ Some input → length ls ≤ MOST_LINES
     → Reason (Replays handed_in s t modems) (StopsReplay handed_in s t modems) rest0 rest ls text halt → Concludes EndsReplay ls text closing halt → SentFor sent0 sent (length ls) text closing halt ended
@@ -78,26 +57,30 @@ halted handed_in s t modems rest0 rest sent0 sent input ls text closing halt (Er
 halted handed_in s t modems rest0 rest sent0 sent input ls text closing (Reading reading.End) (Ok done) bench told few r c said no_read no_write no_last =
     let (tail, taken, at) = r.1 input told in
     inl (record {
-      lines = ls;
-      more = [];
       text = text;
-      parts = all_lines ls input tail taken at.0;
-      handled = are_handled ls input tail few taken r.0.fit;
+      ended = record {
+        lines = ls;
+        more = [];
+        parts = all_lines ls input tail taken at.0;
+        handled = are_handled ls input tail few taken r.0.fit;
+        outcome = with_zero 0 ls text sent0 sent refl c.0;
+      };
       text_of = told_text handed_in s t modems ls text (r.0.told bench);
-      outcome = with_zero ls text sent0 sent c.0;
     })
 halted handed_in s t modems rest0 rest sent0 sent input ls text closing (Reading reading.Fault) (Ok done) bench told few r c said no_read no_write no_last = absurd (no_read refl)
 halted handed_in s t modems rest0 rest sent0 sent input ls text closing (Reading reading.Limit) (Ok done) bench told few r c said no_read no_write no_last =
     let (tail, taken, at) = r.1 input told in
     let past = has_past ls input tail rest taken at in
     inl (record {
-      lines = ls;
-      more = past.more;
       text = text;
-      parts = past.parts;
-      handled = are_handled ls input tail few taken r.0.fit;
+      ended = record {
+        lines = ls;
+        more = past.more;
+        parts = past.parts;
+        handled = are_handled ls input tail few taken r.0.fit;
+        outcome = with_seven 7 ls past.more text sent0 sent refl past.past said;
+      };
       text_of = told_text handed_in s t modems ls text (r.0.told bench);
-      outcome = with_seven ls past.more text sent0 sent past.past said;
     })
 halted handed_in s t modems rest0 rest sent0 sent input ls text closing (Reading reading.NoMemory) (Ok done) bench told few r c said no_read no_write no_last = inr (inl refl)
 halted handed_in s t modems rest0 rest sent0 sent input ls text closing (Handling handling.ChipFault) (Ok done) bench told few r c said no_read no_write no_last =
@@ -107,13 +90,15 @@ halted handed_in s t modems rest0 rest sent0 sent input ls text closing (Handlin
     let (l, stops, less, has) = r in
     let (tail, taken, (behind, here, now)) = has input told in
     inl (record {
-      lines = ls;
-      more = l ∷ lines_of behind;
       text = text;
-      parts = lines_first ls input tail taken ∙ ap (λ (z : List (List ℕ)). ls ++ z) (line_first l tail behind here);
-      handled = are_handled ls input tail few taken stops.refused.fit;
+      ended = record {
+        lines = ls;
+        more = l ∷ lines_of behind;
+        parts = lines_first ls input tail taken ∙ ap (λ (z : List (List ℕ)). ls ++ z) (line_first l tail behind here);
+        handled = are_handled ls input tail few taken stops.refused.fit;
+        outcome = with_five 5 ls (l ∷ lines_of behind) text sent0 sent refl (here.short, less, stops.refused.unfit refl) said;
+      };
       text_of = stopped_text handed_in s t modems ls text l (stops.told bench);
-      outcome = with_five ls (l ∷ lines_of behind) text sent0 sent (here.short, less, stops.refused.unfit refl) said;
     })
 halted handed_in s t modems rest0 rest sent0 sent input ls text closing (Handling handling.Limit) (Ok done) bench told few r c said no_read no_write no_last =
     let (l, stops, less, has) = r in
@@ -134,13 +119,15 @@ halted handed_in s t modems rest0 rest sent0 sent input ls text closing (Handlin
 halted handed_in s t modems rest0 rest sent0 sent input ls text closing (Ending ending.Missing) (Ok done) bench told few r c said no_read no_write no_last =
     let (tail, taken, at) = r.1 input told in
     inl (record {
-      lines = ls;
-      more = [];
       text = text;
-      parts = all_lines ls input tail taken at.0;
-      handled = are_handled ls input tail few taken r.0.fit;
+      ended = record {
+        lines = ls;
+        more = [];
+        parts = all_lines ls input tail taken at.0;
+        handled = are_handled ls input tail few taken r.0.fit;
+        outcome = with_five 5 ls [] text sent0 sent refl c said;
+      };
       text_of = told_text handed_in s t modems ls text (r.0.told bench);
-      outcome = with_five ls [] text sent0 sent c said;
     })
 halted handed_in s t modems rest0 rest sent0 sent input ls text closing (Ending ending.NoMemory) (Ok done) bench told few r c said no_read no_write no_last = absurd c
 halted handed_in s t modems rest0 rest sent0 sent input ls text closing Sending (Ok done) bench told few r c said no_read no_write no_last = absurd (no_write refl)
@@ -155,76 +142,23 @@ went handed_in status old new s t modems input r bench told no_read no_write =
     (λ at. no_read (causes.read at)) (λ at. no_write (causes.write (inl at))) (λ at. no_write (causes.write (inr at))))
 
 -- lines that are all handled are replayed to their end
-ends_well : (handed_in : List ModemSeen) (status : ℕ) (input : List ℕ) (sent0 sent : Option (List ℕ)) → HasEnded handed_in status input sent0 sent → lines_of input ≢ [] → AreHandled (lines_of input) → status ≡ 0
-unfolding Outcome
-ends_well handed_in status input sent0 sent e some h =
-    let all : AreHandled (e.lines ++ e.more) = subst AreHandled e.parts h in
-    let there : e.lines ++ e.more ≢ [] = λ none. some (e.parts ∙ none) in
-    elim e.outcome [
-      | inl done ↦ done.0
-      | inr others ↦
-          elim others [
-            | inl unfit ↦ absurd (whole_goes_on e.lines e.more there all (unfit_breaks e.lines e.more unfit.1))
-            | inr past ↦ absurd (whole_goes_on e.lines e.more there all (limit_breaks e.lines e.more past.1))
-          ]
-    ]
-
 pub complete : (handed_in : List ModemSeen) (status : ℕ) (old new : Edge) (s t : Seen) (modems : List ModemSeen) (input : List ℕ) → Replayed handed_in status old new s t modems → s.told ≡ true → old.rest ≡ Some input
     → lines_of input ≢ [] → AreHandled (lines_of input) → (Rose old.read_faults new.read_faults → ⊥) → (Rose old.write_faults new.write_faults → ⊥) → EndsWell handed_in s t modems (lines_of input) status
 unfolding Went
 complete handed_in status old new s t modems input r bench told some h no_read no_write =
     elim (went handed_in status old new s t modems input r bench told no_read no_write) [
-      | inl e ↦ inl (ends_well handed_in status input old.sent new.sent e some h)
+      | inl e ↦ inl (ends_well status input e.text old.sent new.sent e.ended some h)
       | inr hindered ↦ inr hindered
     ]
 
 -- a replay ended where the lines break
-at_break : (handed_in : List ModemSeen) (ls : List (List ℕ)) (wanted : ℕ) (gs : List (List ℕ)) (status : ℕ) (text : List ℕ) (sent0 sent : Option (List ℕ)) → IsTextOf handed_in gs text → gs ≡ ls → status ≡ wanted → HasSent sent0 sent (text ++ stop_line wanted (length gs + 1))
-    → HasStopped handed_in ls wanted status sent0 sent
-at_break handed_in ls wanted gs status text sent0 sent of same is said = record {
-  status_is = is;
+at_break : (handed_in : List ModemSeen) (ls gs : List (List ℕ)) (wanted status : ℕ) (text : List ℕ) (sent0 sent : Option (List ℕ)) → IsTextOf handed_in gs text → StopsBehind gs ls wanted status text sent0 sent → HasStopped handed_in ls wanted status sent0 sent
+at_break handed_in ls gs wanted status text sent0 sent of stop = record {
+  status_is = stop.status_is;
   text = text;
-  text_of = subst (λ (z : List (List ℕ)). IsTextOf handed_in z text) same of;
-  has_sent = subst (λ (z : List (List ℕ)). HasSent sent0 sent (text ++ stop_line wanted (length z + 1))) same said;
+  text_of = subst (λ (z : List (List ℕ)). IsTextOf handed_in z text) stop.same of;
+  has_sent = stop.said;
 }
-
-past_limit : (handed_in : List ModemSeen) (status : ℕ) (input : List ℕ) (ls t : List (List ℕ)) (sent0 sent : Option (List ℕ)) → HasEnded handed_in status input sent0 sent → lines_of input ≡ ls ++ t → AreHandled ls → PassesLimit ls t → HasStopped handed_in ls 7 status sent0 sent
-unfolding Outcome
-past_limit handed_in status input ls t sent0 sent e is handled past =
-    let breaks = limit_breaks ls t past in
-    elim e.outcome [
-      | inl done ↦
-          let whole : e.lines ≡ ls ++ t = sym (append-nil e.lines) ∙ ap (λ (z : List (List ℕ)). e.lines ++ z) (sym done.2) ∙ sym e.parts ∙ is in
-          absurd (whole_goes_on ls t (λ none. done.1 (whole ∙ none)) (subst AreHandled whole e.handled) breaks)
-      | inr others ↦
-          elim others [
-            | inl unfit ↦
-                let (g, u) = one_place ls e.lines t e.more (sym is ∙ e.parts) handled e.handled breaks (unfit_breaks e.lines e.more unfit.1) in
-                absurd (limit_or_unfit ls t past (rw (g, u) at unfit.1))
-            | inr limit ↦
-                let (g, u) = one_place ls e.lines t e.more (sym is ∙ e.parts) handled e.handled breaks (limit_breaks e.lines e.more limit.1) in
-                at_break handed_in ls 7 e.lines status e.text sent0 sent e.text_of g limit.0 limit.2
-          ]
-    ]
-
-is_unfit : (handed_in : List ModemSeen) (status : ℕ) (input : List ℕ) (ls t : List (List ℕ)) (sent0 sent : Option (List ℕ)) → HasEnded handed_in status input sent0 sent → lines_of input ≡ ls ++ t → AreHandled ls → IsUnfit ls t → HasStopped handed_in ls 5 status sent0 sent
-unfolding Outcome
-is_unfit handed_in status input ls t sent0 sent e is handled bad =
-    let breaks = unfit_breaks ls t bad in
-    elim e.outcome [
-      | inl done ↦
-          let whole : e.lines ≡ ls ++ t = sym (append-nil e.lines) ∙ ap (λ (z : List (List ℕ)). e.lines ++ z) (sym done.2) ∙ sym e.parts ∙ is in
-          absurd (whole_goes_on ls t (λ none. done.1 (whole ∙ none)) (subst AreHandled whole e.handled) breaks)
-      | inr others ↦
-          elim others [
-            | inl unfit ↦
-                let (g, u) = one_place ls e.lines t e.more (sym is ∙ e.parts) handled e.handled breaks (unfit_breaks e.lines e.more unfit.1) in
-                at_break handed_in ls 5 e.lines status e.text sent0 sent e.text_of g unfit.0 unfit.2
-            | inr limit ↦
-                let (g, u) = one_place ls e.lines t e.more (sym is ∙ e.parts) handled e.handled breaks (limit_breaks e.lines e.more limit.1) in
-                absurd (limit_or_unfit ls t (rw (g, u) at limit.1) bad)
-          ]
-    ]
 
 pub stops : (handed_in : List ModemSeen) (status : ℕ) (old new : Edge) (s t : Seen) (modems : List ModemSeen) (input : List ℕ) (ls more : List (List ℕ)) → Replayed handed_in status old new s t modems → s.told ≡ true → old.rest ≡ Some input → lines_of input ≡ ls ++ more
     → AreHandled ls → (Rose old.read_faults new.read_faults → ⊥) → (Rose old.write_faults new.write_faults → ⊥) → StopsWith handed_in s t modems ls more status old.sent new.sent
@@ -232,8 +166,8 @@ unfolding Went
 stops handed_in status old new s t modems input ls more r bench told is handled no_read no_write =
     elim (went handed_in status old new s t modems input r bench told no_read no_write) [
       | inl e ↦ record {
-        limit = λ past. inl (past_limit handed_in status input ls more old.sent new.sent e is handled past);
-        unfit = λ bad. inl (is_unfit handed_in status input ls more old.sent new.sent e is handled bad);
+        limit = λ past. inl (at_break handed_in ls e.ended.lines 7 status e.text old.sent new.sent e.text_of (at_limit status input e.text ls more old.sent new.sent e.ended is handled past));
+        unfit = λ bad. inl (at_break handed_in ls e.ended.lines 5 status e.text old.sent new.sent e.text_of (at_unfit status input e.text ls more old.sent new.sent e.ended is handled bad));
       }
       | inr hindered ↦
           let behind = subst (λ (z : List (List ℕ)). IsHindered handed_in s t modems z status) is hindered in

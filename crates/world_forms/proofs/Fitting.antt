@@ -7,11 +7,12 @@ use Rattle.chip_port.specs.Seen.{Seen}
 use Rattle.iot_schedule.specs.Devices.{device_at}
 use Rattle.iot_schedule.specs.Steps.{step_at}
 use Rattle.iot_world.specs.declared.world.World.{World}
-use Rattle.line_loop.specs.Parts.{Walk, Stopping, Handles, HasStopped}
+use Rattle.line_loop.specs.Parts.{Stopping, Handles, HasStopped}
 use Rattle.line_loop.specs.declared.halt.LineStop.{LineStop}
 use Rattle.line_loop.specs.declared.halt.LineStop.TheVariants.{ChipFault, Malformed, Limit, Unrecognised, NoMemory}
 use Rattle.modem_bank.specs.Modems.{Seen as ModemSeen}
 use Rattle.schedule_forms.proofs.Fitting.{fit_push, unfit_push}
+use Rattle.run_loop.specs.Parts.{Walk}
 use Rattle.world_forms.specs.Handling.{Grows, IsReadAs}
 use Rattle.world_forms.specs.Replays.{IsRefused, IsReplayed, IsUnbegun}
 use Rattle.world_forms.specs.Walks.{Began, IsAt}

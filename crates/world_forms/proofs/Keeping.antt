@@ -1,13 +1,12 @@
 -- What a bench keeps of a run as lines follow.
 use Rattle.std.proofs.Common.{◌≡◌, ◌≤◌, ℕ, ◌+◌, Bool, true, false, not, cond, List, [], ◌∷◌, length, refl, ap, sym, subst, ◌∙◌, arith}
-use Rattle.std.specs.Prelude.{◌&&◌, ◌||◌, is_some}
+use Rattle.std.specs.Prelude.{◌&&◌}
 use Rattle.std.proofs.lemmas.Bool.{false≢true}
 use Rattle.chip_port.specs.Seen.{Seen}
 use Rattle.small_card.specs.Histories.{full_of}
 use Rattle.iot_schedule.specs.declared.types.Device.{Device}
-use Rattle.iot_schedule.specs.declared.types.Line.{Line}
 use Rattle.modem_bank.specs.Modems.{Seen as ModemSeen}
-use Rattle.small_world.specs.Runs.{Turn, given, is_boot, steps_card, after_turn, world_after}
+use Rattle.small_world.specs.Runs.{Turn, is_boot, steps_card, after_turn, world_after}
 use Rattle.small_world.specs.Lines.{attended}
 use Rattle.small_world.specs.Stretches.{Fate, fate_of, fates}
 use Rattle.small_world.specs.Worlds.{SmallWorld, start_world}
@@ -15,6 +14,7 @@ use Rattle.small_world.proofs.Counting.{acted_more}
 use Rattle.world_card.specs.Benches.{HoldsWorld}
 use Rattle.world_card.specs.Boots.{IsWokenFor}
 use Rattle.world_card.specs.Counts.{Counted, KeepsPast, answered_fate}
+use Rattle.small_world.proofs.Leaving.{boots_step}
 use Rattle.world_forms.specs.Keeping.{AreShown, IsKept}
 use Rattle.world_forms.proofs.Losses.{counted_first, counted_more}
 
@@ -37,21 +37,13 @@ marks_rise start turn ts =
     let w : SmallWorld = world_after start ts in
     marks_or (steps_card w turn.line && not turn.lost) (length w.marks) (length (after_turn w turn).marks) (turn_marks w turn)
 
-boot_steps : (b boot : Bool) → boot ≡ true → b || boot ≡ true
-boot_steps true boot e = refl
-boot_steps false boot e = e
-
-is_step : (w : SmallWorld) (l : Line) → is_boot l ≡ true → steps_card w l ≡ true
-unfolding steps_card
-is_step w l e = boot_steps (w.lit && is_some (given w l)) (is_boot l) e
-
 -- a boot that isn't lost makes one
 boot_mark : (start : SmallWorld) (turn : Turn) (ts : List Turn) → is_boot turn.line ≡ true → turn.lost ≡ false → length (world_after start (turn ∷ ts)).marks ≡ length (world_after start ts).marks + 1
 unfolding world_after
 boot_mark start turn ts boot kept =
     let w : SmallWorld = world_after start ts in
     let more : length (after_turn w turn).marks ≡ cond (steps_card w turn.line && not turn.lost) 1 0 + length w.marks = turn_marks w turn in
-    let marked : (steps_card w turn.line && not turn.lost) ≡ true = rw (is_step w turn.line boot) (rw kept refl) in
+    let marked : (steps_card w turn.line && not turn.lost) ≡ true = rw (boots_step w turn.line boot) (rw kept refl) in
     one_more (steps_card w turn.line && not turn.lost) (length w.marks) (length (after_turn w turn).marks) marked more
 
 shown_past : (first : ℕ) (start : SmallWorld) (ts : List Turn) (t u : Seen) → KeepsPast t.marks u.marks → first + length (world_after start ts).marks ≤ t.marks.answers + 1 → AreShown first start ts t → AreShown first start ts u

@@ -1,10 +1,8 @@
 -- One generated line more: what it did is one turn more of the run, and what it printed is counted.
 use Rattle.std.proofs.Common.{◌≡◌, ◌≢◌, ◌<◌, ℕ, ◌+◌, ◌-◌, ◌^◌, inl, List, [], ◌∷◌, ◌++◌, length, None, Err, refl, ap, sym, subst, ◌∙◌, add-one, length-append, arith}
-use Rattle.std.specs.Prelude.{Bool}
-use Rattle.std.proofs.lemmas.Bool.{false≢true}
 use Rattle.chip_port.specs.Seen.{Seen}
 use Rattle.iot_schedule.specs.Devices.{device_at}
-use Rattle.iot_schedule.specs.Making.{made_line, state_after, state_before}
+use Rattle.iot_schedule.specs.Making.{made_line}
 use Rattle.iot_world.specs.Turns.{StandsWith}
 use Rattle.iot_world.specs.declared.world.World.{World}
 use Rattle.line_loop.specs.declared.halt.LineStop.{LineStop}
@@ -14,8 +12,7 @@ use Rattle.schedule_forms.specs.Schedules.{made_lines}
 use Rattle.small_world.specs.Printing.{device_printed, printed}
 use Rattle.small_world.specs.Stretches.{fates, is_far}
 use Rattle.small_world.specs.Worlds.{SmallWorld}
-use Rattle.world_card.specs.Counts.{Counted, short_fate}
-use Rattle.world_card.proofs.Counting.{same_past}
+use Rattle.world_card.proofs.Counting.{idle_counted}
 use Rattle.world_forms.specs.Courses.{start_of, turns_of, trace}
 use Rattle.world_forms.specs.Demos.{AreCounts, IsShown, IsStoppedAt, printed_by}
 use Rattle.world_forms.specs.Handling.{BeginsBy, GoesOn, HasBegun, HasTurned}
@@ -38,10 +35,6 @@ unfolding made_lines
 lines_more start count number l is line =
     ap (λ (z : List ℕ). made_lines start count ++ z ∷ []) (line ∙ ap (λ (k : ℕ). made_line start k) (is ∙ add-one count))
     ∙ ap (λ (k : ℕ). made_lines start k) (sym (add-one count))
-
-pub first_state : (start state : ℕ) → state ≡ start → state ≡ state_before start 1
-unfolding state_before state_after
-first_state start state is = is
 
 -- the first line
 pub played_first : (play : Play) (none : Tally) (handed_in ms : List ModemSeen) (l out : List ℕ) (s t : Seen) → HasBegun handed_in l play.world s t ms [] out → AreCounts none [] → CountsOn none play.tally out → HasPlayed play handed_in (l ∷ []) 1 s t ms
@@ -113,22 +106,6 @@ halted_on play v' handed_in ms ms' start count l out s t u stop p is goes fits =
   text = p.text;
   stops = subst (λ (z : List ℕ). Stops handed_in s u ms' (made_lines start count) p.text z stop) is
       (stopped_on handed_in s t u play.world v' ms ms' (made_lines start count) p.text l [] out stop (p.replayed, p.stands) goes (λ bad. absurd (fits bad)) (λ bad. absurd (fits bad)));
-}
-
--- nothing was counted
-idle_counted : (far : Bool) (s : Seen) → Counted (short_fate far) s s
-idle_counted far s = record {
-  told = refl;
-  faults = omega arith;
-  cuts = omega arith;
-  breaks = omega arith;
-  uses = omega arith;
-  most = omega arith;
-  plans = refl;
-  lost = λ is. absurd (false≢true is);
-  answers = refl;
-  now = λ is. absurd (false≢true is);
-  past = same_past s.marks;
 }
 
 -- nor made

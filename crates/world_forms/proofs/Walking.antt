@@ -8,7 +8,6 @@ use Rattle.chip_port.specs.Seen.{Seen, Marks, Tally, no_plan}
 use Rattle.iot_schedule.specs.Devices.{device_at}
 use Rattle.iot_schedule.specs.Steps.{step_at}
 use Rattle.iot_schedule.specs.declared.types.Line.{Line}
-use Rattle.iot_world.specs.Ends.{IsBefore}
 use Rattle.iot_world.specs.Steps.{IsActedShort, IsUnsent, IsUntold, turn}
 use Rattle.iot_world.specs.Turns.{IsTurned, StandsWith, Turns}
 use Rattle.iot_world.specs.declared.ends.Halt.{Halt}
@@ -25,9 +24,10 @@ use Rattle.small_world.specs.Stepping.{commanded}
 use Rattle.small_world.specs.Stretches.{fates, is_far}
 use Rattle.small_world.specs.Worlds.{SmallWorld, start_world}
 use Rattle.world_card.specs.Benches.{HoldsWorld}
-use Rattle.world_card.specs.Boots.{IsWokenFor}
+use Rattle.world_card.specs.Boots.{IsWokenFor, IsBefore}
 use Rattle.world_card.specs.Counts.{Counted, KeepsPast, answered_fate, short_fate}
 use Rattle.world_card.specs.Starts.{IsUnstarted}
+use Rattle.world_card.proofs.Starting.{untouched_then}
 use Rattle.world_forms.specs.Courses.{HasRun, start_of, turns_of, trace}
 use Rattle.world_forms.specs.Handling.{BeginsBy, GoesOn, HasBegun, HasTurned, HasTurnedShort, of_halt}
 use Rattle.world_forms.specs.Keeping.{IsKept}
@@ -115,20 +115,6 @@ led_on handed_in s t u v v' ms ms' ls b l before out text grows at goes =
       g.stands,
     )
 
--- the first line follows a bench that is as it was
-untouched_from : (f : Tally → Tally) (s t u : Seen) → Untouched no_change s t → Untouched f t u → Untouched f s u
-untouched_from f s t u a b = record {
-  told = b.told ∙ a.told;
-  faults = b.faults ∙ a.faults;
-  keeps = record {
-    reads = b.keeps.reads ∙ a.keeps.reads;
-    leaves = λ c. (λ it. (b.keeps.leaves c).0 ((a.keeps.leaves c).0 it), λ it. (a.keeps.leaves c).1 ((b.keeps.leaves c).1 it));
-    marks = b.keeps.marks ∙ a.keeps.marks;
-  };
-  left = λ n c. (λ it. (b.left n c).0 ((a.left n c).0 it), λ it. (a.left n c).1 ((b.left n c).1 it));
-  tally_is = b.tally_is ∙ ap f a.tally_is;
-}
-
 counted_from : (s t u : Seen) → Untouched no_change s t → Counted (answered_fate true) t u → Counted (answered_fate true) s u
 counted_from s t u a c = record {
   told = c.told ∙ a.told;
@@ -184,13 +170,13 @@ stopped_first handed_in s t u ms ms' ls b l before out ChipFault n g none same =
   record { device = g.device; spelled = g.spelled; bench = unstarted_from s t u n.bench g.bench },
 )
 stopped_first handed_in s t u ms ms' ls b l before out Malformed n g none same =
-    inl (record { none = n.none; silent = n.silent; same = same ∙ n.same }, none refl, untouched_from no_change s t u n.bench g)
+    inl (record { none = n.none; silent = n.silent; same = same ∙ n.same }, none refl, untouched_then no_change no_change s t u n.bench g)
 stopped_first handed_in s t u ms ms' ls b l before out Limit n g none same = absurd g
 stopped_first handed_in s t u ms ms' ls b l before out Unrecognised n g none same = absurd g
 stopped_first handed_in s t u ms ms' ls b l before out NoMemory n (inl g) none same =
-    inl (record { none = n.none; silent = n.silent; same = same ∙ n.same }, inl (untouched_from no_change s t u n.bench g))
+    inl (record { none = n.none; silent = n.silent; same = same ∙ n.same }, inl (untouched_then no_change no_change s t u n.bench g))
 stopped_first handed_in s t u ms ms' ls b l before out NoMemory n (inr g) none same =
-    inl (record { none = n.none; silent = n.silent; same = same ∙ n.same }, inr (untouched_from no_plan s t u n.bench g))
+    inl (record { none = n.none; silent = n.silent; same = same ∙ n.same }, inr (untouched_then no_change no_plan s t u n.bench g))
 
 -- a message passes the limit behind a run
 passed : {handed_in : List ModemSeen} {ls : List (List ℕ)} {text : List ℕ} (has : HasRun handed_in ls text) (s t u : Seen) (line : Line) → IsKept s t (start_of has) (turns_of has) has.world (fates (start_of has) (turns_of has))

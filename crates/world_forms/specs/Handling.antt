@@ -6,7 +6,6 @@ use Rattle.iot_schedule.specs.Devices.{device_at}
 use Rattle.iot_schedule.specs.Steps.{step_at}
 use Rattle.iot_schedule.specs.declared.types.Device.{Device}
 use Rattle.iot_schedule.specs.declared.types.Line.{Line}
-use Rattle.iot_world.specs.Ends.{IsBefore}
 use Rattle.iot_world.specs.Starts.{IsBegun}
 use Rattle.iot_world.specs.Steps.{IsOverLimit}
 use Rattle.iot_world.specs.Turns.{StandsWith}
@@ -22,7 +21,7 @@ use Rattle.small_world.specs.Runs.{MayTurn, Turn, after_turn, is_boot}
 use Rattle.small_world.specs.Stretches.{fate_of}
 use Rattle.small_world.specs.Worlds.{SmallWorld}
 use Rattle.world_card.specs.Benches.{HoldsWorld}
-use Rattle.world_card.specs.Boots.{IsWokenFor}
+use Rattle.world_card.specs.Boots.{IsWokenFor, IsBefore}
 use Rattle.world_card.specs.Counts.{Counted}
 use Rattle.card_store.specs.declared.ends.MakeError.{MakeError}
 use Rattle.card_store.specs.declared.ends.MakeError.TheVariants as make

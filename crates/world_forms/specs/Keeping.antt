@@ -1,24 +1,17 @@
 -- What a bench keeps of a run: its history and marks, the images of its boots, and its counts.
-use Rattle.std.specs.Prelude.{◌≡◌, ℕ, ◌+◌, true, false, List, [], ◌∷◌, length, Some}
+use Rattle.std.specs.Prelude.{◌≡◌, ℕ, ◌+◌, true, false, List, [], ◌∷◌, length}
 use Rattle.chip_port.specs.Seen.{Seen}
-use Rattle.card_store.specs.Standing.{Stands}
-use Rattle.small_card.specs.Cards.{FullCard}
 use Rattle.small_card.specs.Histories.{full_of}
 use Rattle.small_world.specs.Runs.{Turn, is_boot, world_after}
 use Rattle.small_world.specs.Stretches.{Fate}
 use Rattle.small_world.specs.Worlds.{SmallWorld}
 use Rattle.world_card.specs.Benches.{HoldsWorld}
+use Rattle.euicc_core.specs.Settling.{WokeAs}
 use Rattle.world_forms.specs.Losses.{AreCounted}
-
--- The image with which the answer of this number was woken stands for this card.
-pub record IsWokenAt (answer : ℕ) (f : FullCard) (t : Seen) : Type 0 where
-  pub image : List ℕ
-  pub woke : t.marks.woke answer ≡ Some image
-  pub stands : Stands f image
 
 -- A boot that made a mark shows the card after it.
 abbrev pub IsShown : ℕ → Turn → SmallWorld → Seen → Type 0
-IsShown answer turn w t = is_boot turn.line ≡ true → turn.lost ≡ false → IsWokenAt answer (full_of w.history) t
+IsShown answer turn w t = is_boot turn.line ≡ true → turn.lost ≡ false → WokeAs answer (full_of w.history) t
 
 -- Each boot of a run does. The first answer has this number, and each mark is that of the next one.
 abbrev pub AreShown : ℕ → SmallWorld → List Turn → Seen → Type 0

@@ -1,14 +1,14 @@
 -- An eIM in code that is found by its identifier, and what it stands for.
-use Rattle.std.proofs.Common.{◌≡◌, ◌≢◌, ℕ, ◌≤◌, ◌<◌, ◌+◌, Bool, true, false, not, ◌||◌, cond, List, [], ◌∷◌, ◌++◌, length, map, refl, ◌∙◌, ap, sym, subst, arith, zero, suc, Option, None, Some, get_or, set, nat_lt}
+use Rattle.std.proofs.Common.{◌≡◌, ◌≢◌, ℕ, ◌<◌, ◌+◌, Bool, true, false, ◌||◌, cond, List, [], ◌∷◌, ◌++◌, length, map, refl, ◌∙◌, ap, sym, subst, arith, zero, suc, Option, None, Some, get_or, set, nat_lt}
 use Rattle.std.specs.Prelude.{Result, Ok, Err, IsErrAnd, IsErrOf, OnOk, IfOk, IfSome, MatchResult, ◌==◌, find, position, option_map}
-use Rattle.std.specs.List.{list_any, position_or_len}
-use Rattle.std.proofs.lemmas.Bool.{cond_both, cond-true, cond-false, ltb-false, false≢true}
+use Rattle.std.specs.List.{list_any}
+use Rattle.std.proofs.lemmas.Bool.{cond_both, cond-true, cond-false}
 use Rattle.std.proofs.lemmas.List.Quantifiers.{position-Some}
-use Rattle.small_card.specs.Lists.{same, greatest, Every, EveryPair}
-use Rattle.small_card.proofs.ListLemmas.{pair_map, pair_push, every_mono, none_every, same_no, same_yes}
+use Rattle.small_card.specs.Lists.{same, greatest, Every}
+use Rattle.small_card.proofs.ListLemmas.{pair_map, nowhere, same_yes}
 use Rattle.small_card.specs.Ranges.{greatest_counter}
 use Rattle.small_card.specs.declared.types.Body.{Body}
-use Rattle.esipa_codec.specs.Eims.{EimState, new_eim, counters_of, bound_to, ordered_by, ordered, skipped, heard}
+use Rattle.esipa_codec.specs.Eims.{EimState, counters_of, bound_to, ordered_by, ordered, skipped, heard}
 use Rattle.esipa_codec.specs.declared.ends.Binding.{Binding}
 use Rattle.esipa_codec.specs.declared.messages.ToEim.{ToEim}
 use Rattle.esipa_codec.specs.declared.messages.ToEim.TheVariants as up
@@ -20,7 +20,6 @@ use Rattle.eim_queue.specs.Queues.{Queue, IsEim, IfOrdered, IfServed, IsSendable
 use Rattle.iot_bytes.specs.declared.memory.NoMemory.{NoMemory}
 use Rattle.small_world.specs.Lossless.{AreApart}
 use Rattle.small_world.specs.Network.{is_named, is_known, eim_of, at_eim}
-use Rattle.world_network.specs.Pairs.{Pairwise}
 use Rattle.world_network.specs.Managers.{IsManager, AreManagers, has_id}
 use Rattle.world_network.specs.declared.mail.SendEnd.{SendEnd}
 use Rattle.world_network.specs.declared.managers.Manager.{Manager}
@@ -45,9 +44,6 @@ pub record IsFoundAt (id : List ℕ) (ms : List Manager) (es : List EimState) (p
   pub named : eim_of id es ≡ Some e
   pub is : IsManager d e
   pub put : AreApart es → (change : EimState → EimState) (q : Queue) → (change e).id ≡ e.id → IsEim q (change e) → AreManagers (set ms place (record d { queue = q })) (at_eim id change es)
-
-changed : List ℕ → (EimState → EimState) → EimState → EimState
-changed id change e = cond (is_named id e) (change e) e
 
 -- Those of other identifiers stay.
 others_stay : (id : List ℕ) (change : EimState → EimState) (e : EimState) (es : List EimState) → same id e.id ≡ true → Every (λ (f : EimState). e.id ≢ f.id) es → at_eim id change es ≡ es
@@ -110,21 +106,6 @@ absent_in id (m ∷ ms) (e ∷ es) h n =
       stays = λ change. ap (λ (x : EimState). x ∷ map (λ g. cond (is_named id g) (change g) g) es) (cond-false (is_named id e) (change e) e miss) ∙ ap (λ (xs : List EimState). e ∷ xs) (rest.stays change);
     }
 
-nowhere_past : {X : Type 0} (t : X → Bool) (xs : List X) → length xs ≤ position_or_len t xs → Every (λ x. t x ≡ false) xs
-nowhere_past t [] h = tt
-nowhere_past t (x ∷ xs) h =
-    elim (t x) as (λ b. t x ≡ b → suc (length xs) ≤ cond (not b) (1 + position_or_len t xs) 0 → (t x ≡ false) × Every (λ y. t y ≡ false) xs) [
-      | true ↦ λ e l. absurd (omega (arith, l))
-      | false ↦ λ e l. (e, nowhere_past t xs (omega (arith, l)))
-    ] refl h
-
-nowhere : {X : Type 0} (t : X → Bool) (xs : List X) → position t xs ≡ None → Every (λ x. t x ≡ false) xs
-nowhere t xs e =
-    elim (nat_lt (position_or_len t xs) (length xs)) as (λ b. nat_lt (position_or_len t xs) (length xs) ≡ b → cond {A = Option ℕ} b (Some (position_or_len t xs)) None ≡ None → Every (λ x. t x ≡ false) xs) [
-      | true ↦ λ l k. absurd (cc)
-      | false ↦ λ l k. nowhere_past t xs (ltb-false (position_or_len t xs) (length xs) l)
-    ] refl e
-
 pub absent : (id : List ℕ) (ms : List Manager) (es : List EimState) → AreManagers ms es → position (has_id id) ms ≡ None → IsAbsent id es
 absent id ms es h p = absent_in id ms es h (nowhere (has_id id) ms p)
 
@@ -177,10 +158,6 @@ apart_at id change es i h =
     let f : EimState → EimState = λ e. cond (is_named id e) (change e) e in
     let same_id : (e : EimState) → (f e).id ≡ e.id = λ e. cond_both (is_named id e) (change e) e (λ (x : EimState). x.id ≡ e.id) (λ _. i e) (λ _. refl) in
     pair_map (λ d e. d.id ≢ e.id) (λ d e. d.id ≢ e.id) f (λ x y r s. r (sym (same_id x) ∙ s ∙ same_id y)) es h
-
-pub apart_joined : (id eid : List ℕ) (es : List EimState) → AreApart es → is_known id es ≡ false → AreApart (es ++ new_eim id eid ∷ [])
-unfolding is_known
-apart_joined id eid es h n = pair_push (λ d e. d.id ≢ e.id) es (new_eim id eid) h (every_mono (λ e. is_named id e ≡ false) (λ e. e.id ≢ id) (λ e f same_id. same_no id e.id f (sym same_id)) es (none_every (is_named id) es n))
 
 -- What follows where it went well.
 pub on_then : {X E : Type 0} (r : Result X E) (P Q : Type 0) → (P → Q) → OnOk r P → OnOk r Q

@@ -1,6 +1,6 @@
 -- A network stands for a world, before and after each event.
-use Rattle.std.proofs.Common.{◌≡◌, ℕ, ◌+◌, ◌≤◌, ◌<◌, Bool, true, false, not, cond, List, [], ◌∷◌, ◌++◌, length, map, refl, ◌∙◌, ap, sym, subst, arith, Option, None, Some}
-use Rattle.std.specs.Prelude.{◌-◌, slice_get, option_map, ◌%◌, IfSome}
+use Rattle.std.proofs.Common.{◌≡◌, ℕ, ◌+◌, ◌≤◌, ◌<◌, Bool, true, false, cond, List, [], ◌∷◌, ◌++◌, length, map, refl, ◌∙◌, ap, sym, subst, arith, Option, None, Some}
+use Rattle.std.specs.Prelude.{◌-◌, slice_get, option_map, IfSome}
 use Rattle.std.proofs.lemmas.Bool.{cond-true, cond-false}
 use Rattle.std.proofs.lemmas.List.{append-nil, length-map}
 use Rattle.std.proofs.lemmas.Option.{slice_get-map}
@@ -27,10 +27,11 @@ use Rattle.iot_schedule.specs.declared.types.Pick.TheVariants.{At, Last}
 use Rattle.small_card.proofs.ListLemmas.{same_yes}
 use Rattle.small_world.proofs.HasLemmas.{has_found}
 use Rattle.small_world.proofs.Running.{picked_every}
+use Rattle.small_world.proofs.Delivering.{joined_apart}
 use Rattle.world_network.specs.declared.mail.Letter.{Letter}
 use Rattle.ipa_core.specs.Assistants.{IsIpa}
 use Rattle.ipa_core.specs.declared.assistant.Ipa.{Ipa}
-use Rattle.small_world.specs.Acting.{hearing, sending, posts_of, command_of, acts, done, told_answer}
+use Rattle.small_world.specs.Acting.{hearing, sending, posts_of, command_of, acts}
 use Rattle.small_world.specs.Lines.{polled}
 use Rattle.small_world.specs.Lossless.{AreApart}
 use Rattle.small_world.specs.Network.{is_named, is_known, eim_of, at_eim, joined, picked, reply_of, replies_of, gone_up}
@@ -48,7 +49,7 @@ use Rattle.world_network.specs.Managers.{AreManagers, IfBooked}
 use Rattle.world_network.specs.Networks.{Parts, IsNetwork, acting, said_to, heard_of}
 use Rattle.world_network.specs.declared.mail.Mail.{Mail}
 use Rattle.world_network.specs.declared.managers.Manager.{Manager}
-use Rattle.world_network.proofs.Places.{apart_at, apart_joined, ordered_then}
+use Rattle.world_network.proofs.Places.{apart_at, ordered_then}
 use Rattle.world_network.proofs.Sending.{post_len, reply_len, sums_append, posts_stand, replies_stand}
 
 -- What the network stands for in a world is all that it sees of it.
@@ -193,7 +194,7 @@ joined_new n w ms id h k s =
       eims = subst (AreManagers ms) (sym is) (subst (λ (eid : List ℕ). AreManagers ms (w.eims ++ new_eim id eid ∷ [])) h.eid s);
       mail = h.mail;
       within = h.within;
-      apart = subst AreApart (sym is) (apart_joined id (eid_of w) w.eims h.apart k);
+      apart = subst AreApart (sym is) (joined_apart id (eid_of w) w.eims h.apart k);
     }
 
 no_mail : IsMail (record { to_eims = []; to_ipa = []; octets = 0 }) [] []
@@ -218,12 +219,6 @@ restarted_network n w ipa h i = network_alike (record n { ipa = ipa }) (hearing 
 pub booked_then : (r : Option OrderEnd) (P Q : Type 0) → (P → Q) → IfBooked r P → IfBooked r Q
 booked_then None P Q f p = f p
 booked_then (Some end) P Q f p = ordered_then end P Q f p
-
-pub sent_count : (n : Parts) (w : SmallWorld) → IsNetwork n w → length n.mail.to_eims ≡ length w.to_eims
-sent_count n w h = ap length h.mail.to_eims ∙ length-map w.to_eims post_letter
-
-pub replied_count : (n : Parts) (w : SmallWorld) → IsNetwork n w → length n.mail.to_ipa ≡ length w.to_ipa
-replied_count n w h = ap length h.mail.to_ipa ∙ length-map w.to_ipa reply_letter
 
 -- An assistant has at most two strikes.
 pub few_strikes : (ipa : Ipa) (es : List IpaEvent) → IsIpa ipa es → ipa.strikes ≤ 2

@@ -1,5 +1,5 @@
 -- All messages ever sent, as octets, and what they stand for.
-use Rattle.std.specs.Prelude.{◌≡◌, ℕ, ◌+◌, List, [], ◌∷◌, ◌++◌, length, map, sum, Option, Some, None}
+use Rattle.std.specs.Prelude.{◌≡◌, ℕ, ◌+◌, List, [], ◌++◌, length, map, sum, Option, Some, None}
 use Rattle.small_card.specs.Lists.{Every}
 use Rattle.esipa_codec.specs.Ranges.{IsToEim, IsToIpa}
 use Rattle.esipa_codec.specs.Spelling.{to_eim, to_ipa}

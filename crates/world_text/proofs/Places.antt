@@ -1,6 +1,5 @@
 -- The places of messages, one more at a time.
 use Rattle.std.proofs.Common.{◌≡◌, ℕ, zero, suc, ◌+◌, ◌<◌, List, [], ◌∷◌, ◌++◌, length, take, ap, sym, ◌∙◌, arith, codes, decimal, append_assoc, append-nil, add-one}
-use Rattle.std.proofs.lemmas.List.{take_all}
 use Rattle.esipa_codec.specs.declared.messages.Post.{Post}
 use Rattle.small_world.specs.Texts.{places_text}
 
@@ -20,10 +19,6 @@ places-suc n (suc i) (p ∷ ps) lt =
 pub places-more : (n i : ℕ) (ps : List Post) (old out now : List ℕ) → i < length ps → out ≡ old ++ places_text n (take i ps) → now ≡ out ++ (codes " " ++ decimal (n + i)) → now ≡ old ++ places_text n (take (i + 1) ps)
 places-more n i ps old out now lt was put =
     rw add-one (put ∙ ap (λ z. z ++ (codes " " ++ decimal (n + i))) was ∙ append_assoc old (places_text n (take i ps)) (codes " " ++ decimal (n + i)) ∙ sym (ap (λ z. old ++ z) (places-suc n i ps lt)))
-
--- all places were put
-pub places-all : (n i : ℕ) (ps : List Post) (old out : List ℕ) → length ps ≡ i → out ≡ old ++ places_text n (take i ps) → out ≡ old ++ places_text n ps
-places-all n i ps old out e was = was ∙ ap (λ (qs : List Post). old ++ places_text n qs) (take_all i ps (omega (arith, e)))
 
 -- none was put yet
 pub none-put : (n : ℕ) (ps : List Post) (old : List ℕ) → old ≡ old ++ places_text n (take 0 ps)

@@ -10,7 +10,8 @@ use Rattle.small_card.specs.Ranges.{IsPackage}
 use Rattle.eim_table.specs.Entries.{MayCount}
 use Rattle.counter_check.specs.Loads.{check_request}
 use Rattle.home_codec.specs.FullCards.{full_card}
-use Rattle.card_steps.proofs.OneStep.{card_is, shows, request_accepted, may_count, may_load, stays, moves, accepted_reply, refused_reply}
+use Rattle.package_codec.proofs.Replying.{may_load}
+use Rattle.card_steps.proofs.OneStep.{card_is, shows, request_accepted, may_count, stays, moves, accepted_reply, refused_reply}
 use Rattle.card_steps.proofs.loading.load_received.Goals as goal
 
 pub take-requires-clause-count : goal.take-requires-clause-count

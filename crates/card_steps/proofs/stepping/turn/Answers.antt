@@ -1,7 +1,8 @@
 use Rattle.std.proofs.Common.{[]}
 use Rattle.small_card.specs.Histories.{History}
 use Rattle.home_codec.specs.FullCards.{full_card}
-use Rattle.card_steps.proofs.OneStep.{alone_legal, alone_full, turned_valid, turned_range}
+use Rattle.small_card.proofs.Validity.{alone_legal}
+use Rattle.card_steps.proofs.OneStep.{alone_full, turned_valid, turned_range}
 use Rattle.card_steps.proofs.stepping.turn.Goals as goal
 
 pub returns-clause-valid : goal.returns-clause-valid

@@ -4,7 +4,8 @@ use Rattle.small_card.specs.Units.{remove, is_pending}
 use Rattle.small_card.specs.declared.types.Answer.TheVariants as answer
 use Rattle.small_card.specs.declared.types.Command.TheVariants as command
 use Rattle.home_codec.specs.FullCards.{full_card}
-use Rattle.card_steps.proofs.OneStep.{card_is, stays, moves, none_pending, remove_reply, absent_reply, may_remove, remove_parts}
+use Rattle.package_codec.proofs.Replying.{may_remove}
+use Rattle.card_steps.proofs.OneStep.{card_is, stays, moves, none_pending, remove_reply, absent_reply, remove_parts}
 use Rattle.card_steps.proofs.units.remove.Goals as goal
 
 pub returns-then-is_none : goal.returns-then-is_none

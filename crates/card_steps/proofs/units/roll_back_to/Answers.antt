@@ -7,7 +7,8 @@ use Rattle.small_card.specs.declared.types.Profile.{Profile}
 use Rattle.rollback_unit.specs.Rolls.{MayRoll}
 use Rattle.rollback_unit.proofs.Permitting.{valid_may_roll}
 use Rattle.home_codec.specs.FullCards.{full_card}
-use Rattle.card_steps.proofs.OneStep.{card_is, former_is, moves, roll_reply, may_roll_back, roll_parts}
+use Rattle.package_codec.proofs.Replying.{may_roll}
+use Rattle.card_steps.proofs.OneStep.{card_is, former_is, moves, roll_reply, roll_parts}
 use Rattle.card_steps.proofs.units.roll_back_to.Goals as goal
 
 pub roll-rolled-requires : goal.roll-rolled-requires
@@ -24,7 +25,7 @@ returns c = record {
       let former = former_is h f is ∙ c.requires.armed in
       let r = roll_reply h c.args.armed former in
       let number = c.roll-rolled.ensures.number ∙ ap (λ (rs : Results). rs.next) c.in_ok-store.ensures ∙ ap (λ (x : SmallCard). x.results.next) (sym (card_is h f is)) in
-      moves h command.Rollback rollback f _ (answer.RolledBack c.roll-rolled.result.seq) legal is (may_roll_back h c.args.armed former) r.1
+      moves h command.Rollback rollback f _ (answer.RolledBack c.roll-rolled.result.seq) legal is (may_roll h c.args.armed former) r.1
       (ap (λ n. answer.RolledBack n) number ∙ r.0)
       (roll_parts f c.args.armed c.in_ok-profiles.profiles c.roll-rolled.result.table c.in_ok-eims.eims c.in_ok-store.store c.roll-rolled.result.store
       c.in_ok-profiles.ensures c.in_ok-eims.ensures.equal c.in_ok-store.ensures c.roll-rolled.ensures.profiles c.roll-rolled.ensures.results c.requires.armed);

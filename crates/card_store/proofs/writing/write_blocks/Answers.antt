@@ -5,7 +5,8 @@ use Rattle.undo_journal.specs.Home.{home, home_in, kept, AreBlocks}
 use Rattle.undo_journal.specs.States.{Has}
 use Rattle.undo_journal.proofs.Gates.{opened_home}
 use Rattle.undo_journal.proofs.Listing.{has_at}
-use Rattle.card_store.proofs.Blocks.{written_one, written_all}
+use Rattle.undo_journal.proofs.Restoring.{put_back_all}
+use Rattle.card_store.proofs.Blocks.{written_one}
 use Rattle.card_store.proofs.writing.write_blocks.Goals as goal
 
 pub loop-at-init : goal.loop-at-init
@@ -74,5 +75,5 @@ returns-clause-told g c = λ told before all.
     record {
       ran = ran_most (omega (arith, c.loop-at.auto.at-end)) run.0;
       opened = run.1;
-      home_now = λ ok. written_all c.args.blocks.now c.args.octets.now _ _ c.loop-at.at (omega (arith, c.loop-at-test.false)) (inv.home told);
+      home_now = λ ok. put_back_all c.args.blocks.now c.args.octets.now _ _ c.loop-at.at (omega (arith, c.loop-at-test.false)) (inv.home told);
     }

@@ -1,4 +1,4 @@
-use Rattle.std.proofs.Common.{sym, subst}
+use Rattle.std.proofs.Common.{subst}
 use Rattle.std.specs.List.{AllPass}
 use Rattle.sgp_values.specs.Ranges.{is_octet}
 use Rattle.eim_queue.proofs.Sending.{package_sendable}

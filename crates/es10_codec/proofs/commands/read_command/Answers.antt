@@ -1,9 +1,9 @@
 use Rattle.std.proofs.Common.{◌≡◌, ℕ, List, subst, arith}
 use Rattle.std.proofs.lemmas.Result.{IfOk-weaker}
-use Rattle.sgp_der.proofs.Lengths.{IsBytes}
 use Rattle.small_card.specs.Ranges.{IsCommand}
 use Rattle.small_card.specs.declared.types.Command.{Command}
 use Rattle.sgp_fields.proofs.Clauses.{found_by, only_by, malformed_by}
+use Rattle.iot_bytes.proofs.Framing.{IsBytes}
 use Rattle.es10_codec.specs.Spelling.{command, IsShort, IsSpellable}
 use Rattle.es10_codec.proofs.CommandCodec.{command_codec, short_command}
 use Rattle.es10_codec.proofs.commands.read_command.Goals as goal

@@ -1,6 +1,5 @@
-use Rattle.std.proofs.Common.{◌≡◌, ◌∙◌, ap, sym, subst, List, ℕ, None}
-use Rattle.std.specs.Prelude.{Option, Some}
-use Rattle.chip_port.specs.Rules.{IfTold}
+use Rattle.std.proofs.Common.{◌≡◌, ◌∙◌, ap, sym, subst, List, None}
+use Rattle.std.specs.Prelude.{Some}
 use Rattle.small_card.specs.Cards.{FullCard}
 use Rattle.small_card.specs.Histories.{full_of}
 use Rattle.small_card.specs.declared.types.Profile.{Profile}

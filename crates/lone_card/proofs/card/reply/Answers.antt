@@ -1,4 +1,4 @@
-use Rattle.std.proofs.Common.{Some, None}
+use Rattle.std.proofs.Common.{None}
 use Rattle.small_card.specs.Ranges.{IsAnswer}
 use Rattle.small_card.specs.declared.types.Answer.TheVariants.{Personalised}
 use Rattle.lone_card.proofs.Answering.{reply_begun, not_begun, begun_works, not_begun_works}

@@ -1,5 +1,6 @@
-use Rattle.std.proofs.Common.{◌≡◌, ◌∙◌, sym}
-use Rattle.lone_card.proofs.Ending.{complete, stops, not_one, has_faults, has_causes}
+use Rattle.std.proofs.Common.{◌∙◌, sym}
+use Rattle.run_loop.proofs.Mapping.{not_one}
+use Rattle.lone_card.proofs.Ending.{complete, stops, has_faults, has_causes}
 use Rattle.lone_card.proofs.run.run_card.Goals as goal
 
 pub returns-clause-served : goal.returns-clause-served

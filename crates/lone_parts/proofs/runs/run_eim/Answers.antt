@@ -1,7 +1,8 @@
 use Rattle.std.proofs.Common.{◌∙◌, sym}
 use Rattle.lone_parts.specs.Eims.{eim_rule}
 use Rattle.esipa_codec.specs.Eims.{new_eim}
-use Rattle.lone_parts.proofs.Ending.{ran, has_causes, complete, stops, not_one}
+use Rattle.run_loop.proofs.Mapping.{not_one}
+use Rattle.lone_parts.proofs.Ending.{ran, has_causes, complete, stops}
 use Rattle.lone_parts.proofs.runs.run_eim.Goals as goal
 
 pub returns-clause-ran : goal.returns-clause-ran

@@ -6,7 +6,8 @@ use Rattle.run_loop.specs.Status.{exit_status}
 use Rattle.ipa_core.specs.Assistants.{IsIpa}
 use Rattle.lone_parts.specs.Ipas.{Alone, ipa_rule, LedTo, StoppedAt}
 use Rattle.lone_parts.specs.Runs.{Ran}
-use Rattle.lone_parts.proofs.Ending.{ran, has_causes, complete, stops, not_one}
+use Rattle.run_loop.proofs.Mapping.{not_one}
+use Rattle.lone_parts.proofs.Ending.{ran, has_causes, complete, stops}
 use Rattle.lone_parts.proofs.runs.run_ipa.Goals as goal
 
 -- a run of an assistant to which nothing had happened

@@ -3,10 +3,11 @@ use Rattle.std.proofs.lemmas.Result.{err_from_is_err_and}
 use Rattle.iot_schedule.specs.Devices.{device_at}
 use Rattle.iot_world.specs.declared.world.World.{World}
 use Rattle.schedule_forms.proofs.Made.{device_in}
+use Rattle.schedule_forms.proofs.Piecing.{first_state}
 use Rattle.world_forms.specs.Plays.{HasPlayed}
 use Rattle.world_forms.specs.declared.playing.Play.{Play}
 use Rattle.world_forms.proofs.Fitting.{spells_none}
-use Rattle.world_forms.proofs.Plays.{first_state, halted_first, one_line, played_first, unmade_first}
+use Rattle.world_forms.proofs.Plays.{halted_first, one_line, played_first, unmade_first}
 use Rattle.world_forms.proofs.Tallies.{none_counted}
 use Rattle.world_forms.proofs.playing.begin_play.Goals as goal
 

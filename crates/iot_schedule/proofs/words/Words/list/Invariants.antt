@@ -1,6 +1,6 @@
 use Rattle.std.proofs.Common.{◌≡◌, ◌-◌, ◌≤◌, length}
 use Rattle.iot_schedule.specs.Words.{list_of}
-use Rattle.iot_schedule.proofs.Listing.{with_front}
+use Rattle.sgp_fields.proofs.Loop.{with_front}
 use Rattle.iot_schedule.proofs.words.Words.list.Given as goal
 
 abbrev pub invariant-loop-alloc : goal.invariant-loop-alloc

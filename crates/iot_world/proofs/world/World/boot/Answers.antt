@@ -1,4 +1,5 @@
-use Rattle.iot_world.proofs.Powering.{boots, boot_lost, boot_short}
+use Rattle.std.proofs.Common.{inl}
+use Rattle.iot_world.proofs.Powering.{boots, boot_lost}
 use Rattle.iot_world.proofs.world.World.boot.Goals as goal
 
 pub returns-in-Booted-clause-acts : goal.returns-in-Booted-clause-acts
@@ -13,4 +14,4 @@ pub returns-in-Foreign-clause-acts : goal.returns-in-Foreign-clause-acts
 returns-in-Foreign-clause-acts g c = λ first w stands. c.in-Foreign.ensures.boots first w stands.card
 
 pub returns-in-NoMemory-clause-acts : goal.returns-in-NoMemory-clause-acts
-returns-in-NoMemory-clause-acts g c = λ first w stands. boot_short first w _ _ (c.in-NoMemory.ensures.boots first w stands.card)
+returns-in-NoMemory-clause-acts g c = λ first w stands. inl (c.in-NoMemory.ensures.boots first w stands.card)

@@ -1,7 +1,8 @@
 use Rattle.std.proofs.Common.{refl, sym, subst}
 use Rattle.small_world.specs.Stretches.{is_far}
 use Rattle.world_card.specs.Counts.{Counted, short_fate}
-use Rattle.iot_world.proofs.Heard.{idle_counted, short}
+use Rattle.world_card.proofs.Counting.{idle_counted}
+use Rattle.iot_world.proofs.Heard.{short}
 use Rattle.iot_world.proofs.Replied.{replied_to, lost_to, off_to}
 use Rattle.iot_world.proofs.world.World.command.Goals as goal
 

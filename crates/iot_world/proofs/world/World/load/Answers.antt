@@ -6,7 +6,7 @@ use Rattle.small_world.specs.Stretches.{is_far}
 use Rattle.world_card.specs.Commands.{IsAnswered}
 use Rattle.world_card.specs.Counts.{Counted, short_fate}
 use Rattle.iot_world.proofs.Handing.{load_handed, load_unheard, load_off, load_short}
-use Rattle.iot_world.proofs.Heard.{idle_counted}
+use Rattle.world_card.proofs.Counting.{idle_counted}
 use Rattle.iot_world.proofs.world.World.load.Goals as goal
 
 pub returns-in-Answered-clause-acts : goal.returns-in-Answered-clause-acts

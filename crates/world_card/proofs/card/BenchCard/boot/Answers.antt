@@ -1,4 +1,4 @@
-use Rattle.std.proofs.Common.{◌≡◌, ◌∙◌}
+use Rattle.std.proofs.Common.{◌∙◌}
 use Rattle.world_card.proofs.Booting.{reopened, stayed_off}
 use Rattle.world_card.proofs.card.BenchCard.boot.Goals as goal
 

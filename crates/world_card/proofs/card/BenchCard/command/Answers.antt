@@ -1,5 +1,4 @@
-use Rattle.std.proofs.Common.{◌≡◌, ◌∙◌, sym, subst, None, refl, ap}
-use Rattle.euicc_core.specs.declared.ends.StepEnd.{StepEnd}
+use Rattle.std.proofs.Common.{◌≡◌, ◌∙◌, sym, subst, refl}
 use Rattle.euicc_core.specs.declared.ends.StepEnd.TheVariants.{Answered, Lost, Dark, NoMemory}
 use Rattle.world_card.specs.Benches.{IsOnBench}
 use Rattle.world_card.proofs.Commanding.{command_answered, command_lost, command_short}

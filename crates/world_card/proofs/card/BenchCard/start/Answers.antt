@@ -1,4 +1,4 @@
-use Rattle.std.proofs.Common.{◌≡◌, ◌∙◌}
+use Rattle.std.proofs.Common.{◌∙◌}
 use Rattle.world_card.proofs.Starting.{card_started, start_refused}
 use Rattle.world_card.proofs.card.BenchCard.start.Goals as goal
 

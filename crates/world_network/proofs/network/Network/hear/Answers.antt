@@ -1,27 +1,8 @@
-use Rattle.std.proofs.Common.{◌≡◌, ◌<◌, ◌∷◌, ℕ, ◌∙◌, ap, sym, subst, refl, List, Option, Some, None, not}
-use Rattle.small_card.specs.Lists.{Every}
-use Rattle.esipa_codec.specs.Assistant.{IpaEvent, act_of, message, answered, poll, push, probe, restart}
-use Rattle.esipa_codec.specs.Eims.{bound_to, ordered, skipped}
-use Rattle.esipa_codec.specs.declared.ends.Act.{Act}
-use Rattle.small_world.specs.Acting.{hearing, posts_of, told_answer}
-use Rattle.small_world.specs.Lines.{acted, polled}
-use Rattle.small_world.specs.Octets.{octets_sent, most_octets_sent}
-use Rattle.std.specs.Prelude.{IfOk, IfSome, OnOk, IsErrOf, option_copied}
-use Rattle.std.specs.List.{list_any}
-use Rattle.esipa_codec.specs.Eims.{heard}
-use Rattle.esipa_codec.specs.declared.messages.Post.{Post}
-use Rattle.esipa_codec.specs.declared.messages.ToEim.{ToEim}
-use Rattle.esipa_codec.specs.declared.messages.ToIpa.{ToIpa}
-use Rattle.small_card.specs.Ranges.{IsCommand}
-use Rattle.small_world.specs.Acting.{command_of}
-use Rattle.small_world.specs.Network.{is_known, gone_up, picked}
-use Rattle.small_world.specs.declared.reply.Reply.{Reply}
-use Rattle.world_network.specs.Managers.{has_id}
-use Rattle.small_world.specs.Worlds.{SmallWorld, eid_of}
-use Rattle.world_network.specs.Mails.{IsPost}
-use Rattle.world_network.specs.Networks.{Parts, IsNetwork, parts_of, acting, heard_of, up_end, down_act, hearing_from}
-use Rattle.world_network.proofs.Places.{bound_id, ordered_id, skipped_id, on_then, heard_id, handed_on, known_same}
-use Rattle.world_network.proofs.Standing.{changed_network, booked_then, acted_network, acted_limit, answered_fits, poll_fits, heard_network, new_network, restarted_network, sent_count, replied_count, few_strikes, joined_there, gone_up_network, gone_up_limit, said_fits, heard_same, named_post, named_reply, unnamed_post, unnamed_reply, brought_fits, joined_new, polled_known, polled_unknown}
+use Rattle.std.proofs.Common.{◌∙◌, sym, subst}
+use Rattle.esipa_codec.specs.Assistant.{message}
+use Rattle.world_network.specs.Networks.{Parts, IsNetwork, parts_of}
+use Rattle.world_network.proofs.Places.{heard_id, handed_on}
+use Rattle.world_network.proofs.Standing.{gone_up_network, gone_up_limit, said_fits, heard_same}
 use Rattle.world_network.proofs.network.Network.hear.Goals as goal
 
 pub returns-in_err-send_said-in-Ok-clause-limit : goal.returns-in_err-send_said-in-Ok-clause-limit
