@@ -1,4 +1,4 @@
-ghost use Rattle.std.specs.Prelude.{◌≡◌, true, ℕ, Option, IfOk};
+ghost use Rattle.std.specs.Prelude.{◌≡◌, true, Option, IfOk};
 ghost use Rattle.small_card.specs.Checks.{has_room};
 ghost use Rattle.small_card.specs.Packages.{armed_with, execute, result_of};
 ghost use Rattle.small_card.specs.Steps.{step_full};

@@ -1,6 +1,7 @@
 -- Blocks that are compared one after the other.
 use Rattle.std.proofs.Common.{◌≡◌, ◌⊎◌, inl, inr, ⊎_elim, ℕ, zero, suc, ◌+◌, ◌-◌, ◌*◌, ◌<◌, ◌≤◌, true, false, List, [], ◌∷◌, ◌++◌, length, take, drop, refl, sym, ◌∙◌, ap, subst, arith, append_assoc, length-append, length-drop, length-take}
 use Rattle.std.specs.Prelude.{ltb, Result, Ok, Err, OnOk}
+use Rattle.std.specs.List.{range_with_len}
 use Rattle.std.proofs.Math.Seq.{take-add}
 use Rattle.std.proofs.lemmas.Bool.{cases_order, cases_Bool}
 use Rattle.std.proofs.lemmas.Bool.Decides.{nat_tests}
@@ -13,7 +14,7 @@ use Rattle.undo_journal.specs.Home.{put_back, block_of, same_octets, rises}
 use Rattle.undo_journal.specs.States.{Has}
 use Rattle.undo_journal.proofs.PutBack.{From, put_same}
 use Rattle.undo_journal.proofs.BlockByBlock.{others_back}
-use Rattle.card_store.specs.Changed.{blocks_from, differing, changed}
+use Rattle.card_store.specs.Changed.{differing, changed}
 use Rattle.card_store.specs.Comparing.{Between, AllDiffer, IsListed, IsCompared, Lists, Compared}
 use Rattle.card_store.specs.declared.ends.StageError.{StageError}
 use Rattle.card_store.specs.declared.changes.Changes.{Changes}
@@ -199,8 +200,7 @@ no_same : (xs ys : List ℕ) → (xs ≡ ys → ⊥) → same_octets xs ys ≡ f
 no_same xs ys other = elim (cases_Bool (same_octets xs ys)) [ inl yes_same ↦ absurd (other (same_yes xs ys yes_same)) | inr not_same ↦ not_same ]
 
 -- the blocks that differ are those of a list, where each of the list differs and no other does
-differing_is : (k n : ℕ) (bs old new : List ℕ) → Between k bs (k + n) → ((b : ℕ) → Has b bs → block_of new b ≡ block_of old b → ⊥) → ((b : ℕ) → (Has b bs → ⊥) → k ≤ b → b < k + n → block_of new b ≡ block_of old b) → differing (blocks_from k n) old new ≡ bs
-unfolding blocks_from
+differing_is : (k n : ℕ) (bs old new : List ℕ) → Between k bs (k + n) → ((b : ℕ) → Has b bs → block_of new b ≡ block_of old b → ⊥) → ((b : ℕ) → (Has b bs → ⊥) → k ≤ b → b < k + n → block_of new b ≡ block_of old b) → differing (range_with_len k n) old new ≡ bs
 differing_is k zero [] old new f differs stays = refl
 differing_is k zero (b ∷ bs) old new f differs stays = absurd (omega (arith, f.0, between_le (b + 1) bs (k + 0) f.1))
 differing_is k (suc n) [] old new f differs stays =
@@ -215,7 +215,7 @@ differing_is k (suc n) (b ∷ bs) old new f differs stays =
           let more = differing_is (k + 1) n bs old new (subst (λ (m : ℕ). Between (m + 1) bs (k + 1 + n)) (sym here) rest)
           (λ c has. differs c (inr has))
           (λ c no le lt. stays c (⊎_elim (λ e. omega (arith, e, here, le)) no) (omega arith) (omega arith)) in
-          rw head (ap (λ (m : ℕ). m ∷ differing (blocks_from (k + 1) n) old new) here ∙ ap (λ (l : List ℕ). b ∷ l) more)
+          rw head (ap (λ (m : ℕ). m ∷ differing (range_with_len (k + 1) n) old new) here ∙ ap (λ (l : List ℕ). b ∷ l) more)
       | inr (inl below) ↦
           let apart : Has k (b ∷ bs) → ⊥ = (λ has. let r = between_below k (b ∷ bs) (k + suc n) k f has in let s = between_below b (b ∷ bs) (k + suc n) k (omega arith, f.1) has in omega (arith, s.0, below)) in
           let head : same_octets (block_of old k) (block_of new k) ≡ true = same_self _ _ (sym (stays k apart (omega arith) (omega arith))) in
@@ -225,6 +225,7 @@ differing_is k (suc n) (b ∷ bs) old new f differs stays =
 
 -- so the blocks of a comparison are those that change
 pub compared_all : (c : Changes) (old new : List ℕ) → length old ≡ 172288 → IsCompared c 673 old new → c.blocks ≡ changed old (put_back c.blocks c.octets old)
+unfolding changed
 compared_all c old new size is =
     let f = between_from 0 c.blocks 673 is.listed.blocks (omega arith) in
     sym (differing_is 0 673 c.blocks old (put_back c.blocks c.octets old) is.listed.blocks

@@ -41,6 +41,11 @@ followed h (Some u) = with_unit h u
 abbrev pub standing : History → Mark
 standing h = record { units = length h.units; attempt = None }
 
+-- this unit, or none, was in progress after the newest mark
+unfoldable pub tried : Option CardUnit → List Mark → List Mark
+tried u [] = []
+tried u (m ∷ older) = record m { attempt = u } ∷ older
+
 -- the chip holds the history up to its last unit, and nothing else than this unit is in progress
 pub record IsHeld (s : Seen) (first : ℕ) (h : History) (m : Mark) (older : List Mark) (u : Option CardUnit) : Type 0 where
   pub told : s.told ≡ true

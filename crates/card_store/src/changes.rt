@@ -1,6 +1,6 @@
 //! Finding the home blocks that change.
 
-ghost use Rattle.std.specs.Prelude.{◌≡◌, ◌≤◌, ◌+◌, ◌*◌, ◌/◌, ◌<◌, ◌∷◌, ◌++◌, [], ℕ, List};
+ghost use Rattle.std.specs.Prelude.{◌≡◌, ◌≤◌, ◌+◌, ◌*◌, ◌<◌, ◌∷◌, ◌++◌, [], ℕ};
 ghost use Rattle.std.specs.Prelude.{length, take, drop, true, false, OnOk, OnErr, Err};
 ghost use Rattle.chip_port.specs.Rules.{IfTold, Takes};
 ghost use Rattle.undo_journal.specs.Home.{home_in, same_octets};

@@ -1,6 +1,6 @@
 //! Finding the blocks that make the home of a new card, area by area.
 
-ghost use Rattle.std.specs.Prelude.{◌≡◌, ◌≤◌, ◌+◌, ◌*◌, ◌<◌, [], ℕ, List, Option, None};
+ghost use Rattle.std.specs.Prelude.{◌≡◌, ◌+◌, ◌*◌, ◌<◌, [], List, Option, None};
 ghost use Rattle.std.specs.Prelude.{length, OnOk, IfOk, IfSome};
 ghost use Rattle.std.specs.Option.{option_copied};
 ghost use Rattle.chip_port.specs.Rules.{IfTold, Takes};

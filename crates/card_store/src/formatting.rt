@@ -3,7 +3,7 @@
 //! The magic is taken away first and put there last, each synced, so that a cut on the way leaves
 //! no home that is half old and half new.
 
-ghost use Rattle.std.specs.Prelude.{◌≡◌, ◌≤◌, ◌+◌, length, is_ok, OnOk, IfOk, false};
+ghost use Rattle.std.specs.Prelude.{◌≡◌, ◌≤◌, length, is_ok, OnOk, IfOk, false};
 ghost use Rattle.chip_port.specs.Rules.{HasCause, IfTold, Only};
 ghost use Rattle.undo_journal.specs.Home.{has_magic, home_in, is_open};
 ghost use Rattle.undo_journal.specs.States.{TakesAtMost};

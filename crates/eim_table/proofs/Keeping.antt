@@ -1,27 +1,28 @@
 -- What is done to a table's entries leaves a table.
-use Rattle.std.proofs.Common.{◌≡◌, ℕ, ◌+◌, ◌≤◌, ◌<◌, true, false, not, ◌&&◌, List, [], ◌∷◌, ◌++◌, length, map, arith, refl, ap, subst, sym, ◌∙◌, Option, None, Some}
-use Rattle.std.specs.Prelude.{nat_le, nat_lt, ◌==◌, ◌↔◌, position, remove}
-use Rattle.std.specs.List.{list_all}
-use Rattle.std.proofs.lemmas.Bool.{cond_both, true≢false, and_parts, and_from, leb-true, le-leb, ltb-true, lt-ltb, eqb-true}
+use Rattle.std.proofs.Common.{◌≡◌, ℕ, ◌+◌, ◌≤◌, ◌<◌, true, false, not, List, [], ◌∷◌, ◌++◌, length, map, arith, refl, ap, subst, sym, ◌∙◌, Option, None, Some}
+use Rattle.std.specs.Prelude.{nat_le, ◌==◌, ◌↔◌, position, remove}
+use Rattle.std.proofs.lemmas.Bool.{cond_both, true≢false, leb-true, eqb-true}
 use Rattle.std.proofs.lemmas.List.{length-append, length-map}
 use Rattle.small_card.specs.Lists.{Every, EveryPair, without}
-use Rattle.small_card.specs.Pairs.{each_pair, are_entries_apart}
 use Rattle.small_card.specs.Cards.{EimList}
 use Rattle.small_card.specs.EimOperations.{is_eim, has_eim, without_eim, with_fields, updated, counted, with_counter, added, last_association, do_eco}
 use Rattle.small_card.specs.Valid.{IsEntry, AreEntriesApart, AreEims}
+use Rattle.small_card.specs.Numbered.{IsGiven}
+use Rattle.small_card.specs.declared.limits.TheConstants.{MOST_EIMS}
 use Rattle.small_card.specs.declared.types.EimEntry.{EimEntry}
 use Rattle.small_card.specs.declared.types.Eco.TheVariants as eco
 use Rattle.small_card.specs.declared.types.Item.{Item}
 use Rattle.small_card.specs.declared.types.Item.TheVariants as item
 use Rattle.small_card.proofs.ListLemmas.{same_yes, same_no, pair_mono, removed_place, no_place, every_mono, every_both, every_push, every_filter, every_map, pair_push, pair_filter, pair_map, length_filter, none_every}
-use Rattle.small_card.proofs.PairTests.{each_take, each_again, pairs_take, pairs_again, entry_pairs}
-use Rattle.eim_table.specs.Entries.{IsGiven, IsEims, IsInRange, is_given, are_eims}
+use Rattle.small_card.proofs.PairTests.{entry_pairs}
+use Rattle.small_card.proofs.NumberTests.{given_later, numbered_exactly}
+use Rattle.eim_table.specs.Entries.{IsEims, IsInRange, are_eims}
 
 pub valid_eims : (ms : EimList) → AreEims ms → IsEims ms
 valid_eims ms h = record {
   few = h.few;
-  each = every_mono (IsEntry ms.next) (IsGiven ms.next) (λ e n. record { some = n.some; given = n.given }) ms.entries h.each;
-  apart = h.apart;
+  each = every_mono (IsEntry ms.next) (λ e. IsGiven ms.next e.association) (λ e n. record { some = n.some; given = n.given }) ms.entries h.each;
+  pairs = h.apart;
   next = h.next;
 }
 
@@ -31,49 +32,18 @@ valid_ranges ms h = every_mono (IsEntry ms.next) IsInRange (λ e n. record { id 
 pub eims_valid : (ms : EimList) → IsEims ms → Every IsInRange ms.entries → AreEims ms
 eims_valid ms h r = record {
   few = h.few;
-  each = every_both (IsGiven ms.next) IsInRange (IsEntry ms.next)
+  each = every_both (λ e. IsGiven ms.next e.association) IsInRange (IsEntry ms.next)
       (λ e g n. record { id = n.id; address = n.address; key = n.key; counter = n.counter; some = g.some; given = g.given }) ms.entries h.each r;
-  apart = h.apart;
+  apart = h.pairs;
   next = h.next;
 }
 
-given_takes : (next : ℕ) (e : EimEntry) → is_given next e ≡ true → IsGiven next e
-given_takes next e h =
-    let k = and_parts (nat_le 1 e.association) (nat_lt e.association next) h in
-    record { some = leb-true 1 e.association k.0; given = ltb-true e.association next k.1 }
-
-given_again : (next : ℕ) (e : EimEntry) → IsGiven next e → is_given next e ≡ true
-given_again next e h = and_from _ _ (le-leb 1 e.association h.some) (lt-ltb e.association next h.given)
-
-tested_eims : (ms : EimList) → ms.next ≤ 4294967295 → are_eims ms ≡ true → IsEims ms
-unfolding are_eims
-tested_eims ms fits e =
-    let rest = nat_le 1 ms.next && (list_all (is_given ms.next) ms.entries && each_pair are_entries_apart ms.entries) in
-    let a = and_parts (nat_le (length ms.entries) 8) rest e in
-    let b = and_parts (nat_le 1 ms.next) (list_all (is_given ms.next) ms.entries && each_pair are_entries_apart ms.entries) a.1 in
-    let d = and_parts (list_all (is_given ms.next) ms.entries) (each_pair are_entries_apart ms.entries) b.1 in
-    record {
-      few = leb-true (length ms.entries) 8 a.0;
-      each = each_take (is_given ms.next) (IsGiven ms.next) (given_takes ms.next) ms.entries d.0;
-      apart = pairs_take entry_pairs ms.entries d.1;
-      next = record { some = leb-true 1 ms.next b.0; fits = fits };
-    }
-
-eims_tested : (ms : EimList) → IsEims ms → are_eims ms ≡ true
-unfolding are_eims
-eims_tested ms h =
-    and_from _ _ (le-leb (length ms.entries) 8 h.few)
-    (and_from _ _ (le-leb 1 ms.next h.next.some)
-    (and_from _ _ (each_again (is_given ms.next) (IsGiven ms.next) (given_again ms.next) ms.entries h.each) (pairs_again entry_pairs ms.entries h.apart)))
-
 -- the test says exactly whether the entries may stand in a table
 pub tested_exactly : (ms : EimList) → ms.next ≤ 4294967295 → (are_eims ms ≡ true) ↔ IsEims ms
-tested_exactly ms fits = (tested_eims ms fits, eims_tested ms)
+unfolding are_eims
+tested_exactly ms fits = numbered_exactly entry_pairs MOST_EIMS (λ e. e.association) ms.next ms.entries fits
 
-given_later : (n : ℕ) (e : EimEntry) → IsGiven n e → IsGiven (n + 1) e
-given_later n e h = record { some = h.some; given = omega (arith, h.given) }
-
-new_apart : (new e : EimEntry) → is_eim new.id e ≡ false → IsGiven new.association e → AreEntriesApart e new
+new_apart : (new e : EimEntry) → is_eim new.id e ≡ false → IsGiven new.association e.association → AreEntriesApart e new
 new_apart new e h k = record {
   ids = λ same_id. same_no new.id e.id h (sym same_id);
   associations = λ same_one. omega (arith, k.given, same_one);
@@ -84,10 +54,10 @@ pub more_eims : (new : EimEntry) (es : List EimEntry) (next : ℕ) → new.assoc
 unfolding has_eim
 more_eims new es next e fresh few room h = record {
   few = let l : length (es ++ new ∷ []) ≡ length es + 1 = length-append es (new ∷ []) in omega (arith, few, l);
-  each = every_push (IsGiven (next + 1)) es new (every_mono (IsGiven next) (IsGiven (next + 1)) (given_later next) es h.each)
+  each = every_push (λ e. IsGiven (next + 1) e.association) es new (every_mono (λ e. IsGiven next e.association) (λ e. IsGiven (next + 1) e.association) (λ e. given_later next e.association) es h.each)
       (record { some = omega (arith, e, h.next.some); given = omega (arith, e) });
-  apart = pair_push AreEntriesApart es new h.apart
-      (every_both (λ x. is_eim new.id x ≡ false) (IsGiven next) (λ x. AreEntriesApart x new) (λ x f g. new_apart new x f (record { some = g.some; given = omega (arith, g.given, e) })) es (none_every (is_eim new.id) es fresh) h.each);
+  pairs = pair_push AreEntriesApart es new h.pairs
+      (every_both (λ x. is_eim new.id x ≡ false) (λ e. IsGiven next e.association) (λ x. AreEntriesApart x new) (λ x f g. new_apart new x f (record { some = g.some; given = omega (arith, g.given, e) })) es (none_every (is_eim new.id) es fresh) h.each);
   next = record { some = omega arith; fits = omega (arith, room) };
 }
 
@@ -95,8 +65,8 @@ pub updated_eims : (id : List ℕ) (address key : Option (List ℕ)) (es : List 
 unfolding updated
 updated_eims id address key es next h = record {
   few = let l : length (map (with_fields id address key) es) ≡ length es = length-map es (with_fields id address key) in omega (arith, l, h.few);
-  each = every_map (IsGiven next) (IsGiven next) (with_fields id address key) (λ e n. record { some = n.some; given = n.given }) es h.each;
-  apart = pair_map AreEntriesApart AreEntriesApart (with_fields id address key) (λ x y r. record { ids = r.ids; associations = r.associations }) es h.apart;
+  each = every_map (λ e. IsGiven next e.association) (λ e. IsGiven next e.association) (with_fields id address key) (λ e n. record { some = n.some; given = n.given }) es h.each;
+  pairs = pair_map AreEntriesApart AreEntriesApart (with_fields id address key) (λ x y r. record { ids = r.ids; associations = r.associations }) es h.pairs;
   next = h.next;
 }
 
@@ -108,8 +78,8 @@ pub counted_eims : (id : List ℕ) (counter : ℕ) (es : List EimEntry) (next : 
 unfolding with_counter
 counted_eims id counter es next h = record {
   few = let l : length (map (counted id counter) es) ≡ length es = length-map es (counted id counter) in omega (arith, l, h.few);
-  each = every_map (IsGiven next) (IsGiven next) (counted id counter) (λ e n. record { some = n.some; given = n.given }) es h.each;
-  apart = pair_map AreEntriesApart AreEntriesApart (counted id counter) (λ x y r. record { ids = r.ids; associations = r.associations }) es h.apart;
+  each = every_map (λ e. IsGiven next e.association) (λ e. IsGiven next e.association) (counted id counter) (λ e n. record { some = n.some; given = n.given }) es h.each;
+  pairs = pair_map AreEntriesApart AreEntriesApart (counted id counter) (λ x y r. record { ids = r.ids; associations = r.associations }) es h.pairs;
   next = h.next;
 }
 
@@ -121,8 +91,8 @@ pub deleted_eims : (id : List ℕ) (es : List EimEntry) (next : ℕ) → IsEims 
 unfolding without_eim
 deleted_eims id es next h = record {
   few = let l : length (without (is_eim id) es) ≤ length es = length_filter (λ e. not (is_eim id e)) es in omega (arith, l, h.few);
-  each = every_filter (IsGiven next) (λ e. not (is_eim id e)) es h.each;
-  apart = pair_filter AreEntriesApart (λ e. not (is_eim id e)) es h.apart;
+  each = every_filter (λ e. IsGiven next e.association) (λ e. not (is_eim id e)) es h.each;
+  pairs = pair_filter AreEntriesApart (λ e. not (is_eim id e)) es h.pairs;
   next = h.next;
 }
 
@@ -169,6 +139,6 @@ pub one_eims : (entry : EimEntry) (es : List EimEntry) (next : ℕ) → es ≡ e
 one_eims entry es next is some given fits = subst (λ xs. IsEims (record { entries = xs; next = next })) (sym is) (record {
   few = omega arith;
   each = (record { some = some; given = given }, tt);
-  apart = (tt, tt);
+  pairs = (tt, tt);
   next = record { some = omega (arith, some, given); fits = fits };
 })

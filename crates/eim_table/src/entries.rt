@@ -2,9 +2,7 @@
 
 ghost use Rattle.std.specs.Prelude.{◌≡◌, ◌<◌, ◌≤◌, ◌+◌, ◌++◌, ◌∷◌, [], length, map, find, position};
 ghost use Rattle.std.specs.Prelude.{if◌then◌else◌, IfOk};
-ghost use Rattle.std.specs.List.{list_all};
 ghost use Rattle.std.specs.Option.{option_copied};
-ghost use Rattle.eim_table.specs.Entries.{is_given, are_eims};
 ghost use Rattle.small_card.specs.Lists.{EveryPair};
 ghost use Rattle.small_card.specs.EimOperations.{is_eim, has_eim, without_eim, line_of};
 ghost use Rattle.small_card.specs.EimOperations.{with_fields, updated, counted, with_counter};
@@ -15,7 +13,7 @@ use iot_bytes::{NoMemory, Reserve, Row};
 use sgp_values::{Address, EimId, Key};
 use small_card::codes::{DONE, LAST_DELETED};
 use small_card::limits::MOST_EIMS;
-use small_card::{EimEntry, EimLine, are_all_apart};
+use small_card::{EimEntry, EimLine};
 use std::alloc::Global;
 
 #[tactic(auto, unfolding(small_card::specs::EimOperations::has_eim))]
@@ -23,25 +21,6 @@ pub(crate) fn has_eim(entries: &[EimEntry], id: &EimId) -> bool
     ensures { result ≡ has_eim id.now entries.now }
 {
     entries.iter().any(|e| *id == e.id)
-}
-
-fn is_given(entry: &EimEntry, next: u32) -> bool
-    ensures { result ≡ is_given next entry.now }
-{
-    1 <= entry.association && entry.association < next
-}
-
-fn are_given(entries: &[EimEntry], next: u32) -> bool
-    ensures { result ≡ list_all (is_given next) entries.now }
-{
-    entries.iter().all(|entry| is_given(entry, next))
-}
-
-#[tactic(auto, unfolding(crate::specs::Entries::are_eims))]
-pub(crate) fn are_eims(entries: &[EimEntry], next: u32) -> bool
-    ensures { result ≡ are_eims (record { entries = entries.now; next = next }) }
-{
-    entries.len() <= MOST_EIMS && 1 <= next && are_given(entries, next) && are_all_apart(entries)
 }
 
 fn place_of(entries: &[EimEntry], id: &EimId) -> Option<usize>

@@ -6,14 +6,14 @@ ghost use Rattle.eim_table.specs.Adding.{item_of};
 ghost use Rattle.eim_table.specs.Entries.{IsEims, MayCount};
 
 use crate::entries::{
-    are_eims, copy_entries, deletion_code, entry_of, has_eim, lines_of, put_last, set_counter,
-    set_fields, take_out,
+    copy_entries, deletion_code, entry_of, has_eim, lines_of, put_last, set_counter, set_fields,
+    take_out,
 };
 use iot_bytes::{NoMemory, Reserve, Row};
 use sgp_values::{Address, EimId, Key};
 use small_card::codes::{DONE, EXISTS, NO_ASSOCIATION_LEFT, NO_ENTRY_LEFT, NOT_FOUND};
 use small_card::limits::MOST_EIMS;
-use small_card::{EimEntry, EimLine};
+use small_card::{EimEntry, EimLine, are_numbered};
 use std::alloc::Global;
 use std::marker::Model;
 
@@ -65,11 +65,10 @@ impl Eims {
     /// Whether these entries and the next association may stand in a table, as [`Eims::of`] wants
     /// it: at most 8 entries, no two with one identifier or one association, each association from
     /// 1 to below the next one, which is from 1. It takes no memory.
-    #[tactic(auto, using(crate::proofs::Keeping::tested_exactly))]
     pub fn fits(entries: &[EimEntry], next: u32) -> bool
         ensures exact { (result ≡ true) ↔ IsEims (record { entries = entries.now; next = next }) }
     {
-        are_eims(entries, next)
+        are_numbered(entries, MOST_EIMS, next)
     }
 
     /// The table of these entries, none or at most 8, whose next eIM gets the association `next`.

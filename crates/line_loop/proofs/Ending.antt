@@ -1,12 +1,12 @@
 -- The turns of a run over lines, and how it ends.
-use Rattle.std.proofs.Common.{◌≡◌, ◌≢◌, ℕ, ◌+◌, ◌<◌, ◌≤◌, Bool, true, false, List, [], ◌∷◌, ◌++◌, length, Option, Some, Result, Ok, Err, refl, sym, subst, ◌∙◌, length-append, arith}
+use Rattle.std.proofs.Common.{◌≡◌, ◌≢◌, ℕ, ◌+◌, ◌<◌, ◌≤◌, true, List, [], ◌∷◌, ◌++◌, length, Option, Some, Result, Ok, Err, refl, sym, subst, ◌∙◌, length-append, arith}
 use Rattle.iot_bytes.specs.Causes.{Rose}
 use Rattle.run_loop.specs.Edges.{Edge, edge}
-use Rattle.run_loop.specs.Sends.{HasSent}
+use Rattle.run_loop.specs.Sends.{HasSent, HasSentInto, SentLast, Closes, Closed}
 use Rattle.run_loop.specs.declared.halt.SendStop.{SendStop}
 use Rattle.run_loop.specs.declared.halt.SendStop.TheVariants as sending
 use Rattle.run_loop.proofs.Causes.{last_causes, more_causes, no_causes}
-use Rattle.run_loop.proofs.Going.{sent-more, sent-none}
+use Rattle.run_loop.proofs.Going.{closed, cut_again, sent-into, sent-more, sent-none}
 use Rattle.run_loop.specs.Parts.{Walk}
 use Rattle.line_loop.specs.declared.reading.TheConstants.{MOST_LINES}
 use Rattle.line_loop.specs.declared.halt.LineStop.{LineStop}
@@ -16,12 +16,12 @@ use Rattle.line_loop.specs.declared.halt.EndStop.{EndStop}
 use Rattle.line_loop.specs.declared.halt.Halt.{Halt}
 use Rattle.line_loop.specs.declared.halt.Halt.TheVariants.{Reading, Handling, Ending, Sending}
 use Rattle.line_loop.specs.Lines.{IsTaken, NoLineAt}
-use Rattle.line_loop.specs.Sends.{HasSentInto, SentLast, SentBehind, Closes, Closed, stop_line}
+use Rattle.line_loop.specs.Sends.{SentBehind, stop_line}
 use Rattle.line_loop.specs.Status.{halt_status, has_stop_line, is_end}
 use Rattle.line_loop.specs.Parts.{Stopping}
 use Rattle.line_loop.specs.Parts as parts
 use Rattle.line_loop.specs.Runs.{Progress, Halted, Concludes, IsNumbered, SentBefore, SentFor, Ended, line_behind}
-use Rattle.line_loop.proofs.Going.{sent_into, taken_more, taken_none}
+use Rattle.line_loop.proofs.Going.{taken_more, taken_none}
 
 pub at_end : (halt : Halt) → is_end halt ≡ true → halt ≡ Reading reading.End
 at_end (Reading reading.End) is = refl
@@ -118,23 +118,17 @@ cut_short walk next stops old before now count l text few p did taken sent read_
   numbered = omega (arith, length-append p.lines (l ∷ []), p.counted);
   unasked = λ end at. cc;
   reason = (did p.lines p.text p.stands, taken_more old.rest before.rest now.rest p.lines l p.taken taken);
-  sent = record { before = p.text; last = text; parts = refl; sent = sent_into old.sent before.sent now.sent p.text text p.sent sent };
+  sent = (text, record { before = p.text; parts = refl; sent = sent-into old.sent before.sent now.sent p.text text p.sent sent });
   causes = more_causes old before now p.causes read_later write_later (λ at. absurd cc) (λ at. rose);
 }
 
 -- a closing text was sent behind a text, or not whole
 sent_behind : (sent0 sent sent' : Option (List ℕ)) (text last : List ℕ) (closing : Result (Unit {0}) SendStop) → HasSent sent0 sent text → SentLast sent sent' last closing → SentBehind sent0 sent' text last closing
 sent_behind sent0 sent sent' text last (Ok done) before did = sent-more sent0 sent sent' text last before did
-sent_behind sent0 sent sent' text last (Err sending.Fault) before did = sent_into sent0 sent sent' text last before did
+sent_behind sent0 sent sent' text last (Err sending.Fault) before did = sent-into sent0 sent sent' text last before did
 sent_behind sent0 sent sent' text last (Err sending.NoMemory) before did = did
 
 -- the stop line was sent behind a text, or not whole
-closed : (due : Bool) (sent0 sent sent' : Option (List ℕ)) (text line : List ℕ) (closing : Result (Unit {0}) SendStop) → HasSent sent0 sent text → Closes due sent sent' line closing → Closed due sent0 sent' text line closing
-closed false sent0 sent sent' text line closing before did = (did.0, λ b is. did.1 ∙ before b is)
-closed true sent0 sent sent' text line (Ok done) before did = sent-more sent0 sent sent' text line before did
-closed true sent0 sent sent' text line (Err sending.Fault) before did = sent_into sent0 sent sent' text line before did
-closed true sent0 sent sent' text line (Err sending.NoMemory) before did = λ b is. did ∙ before b is
-
 closed_at : (halt : Halt) (sent0 sent sent' : Option (List ℕ)) (text : List ℕ) (count number : ℕ) (closing : Result (Unit {0}) SendStop) → number ≡ count + 1 → HasSent sent0 sent text
     → Closes (has_stop_line halt) sent sent' (stop_line (halt_status halt) number) closing → Closed (has_stop_line halt) sent0 sent' text (line_behind halt count) closing
 closed_at halt sent0 sent sent' text count number closing numbered before did =
@@ -148,15 +142,7 @@ sent_for (Reading reading.Limit) sent0 sent sent' count text number closing not_
 sent_for (Reading reading.NoMemory) sent0 sent sent' count text number closing not_end numbered before did = closed_at (Reading reading.NoMemory) sent0 sent sent' text count number closing numbered before did
 sent_for (Handling stop) sent0 sent sent' count text number closing not_end numbered before did = closed_at (Handling stop) sent0 sent sent' text count number closing numbered before did
 sent_for (Ending stop) sent0 sent sent' count text number closing not_end numbered before did = closed_at (Ending stop) sent0 sent sent' text count number closing numbered before did
-sent_for Sending sent0 sent sent' count text number closing not_end numbered before did = (
-  did.0,
-  record {
-    before = before.before;
-    last = before.last;
-    parts = before.parts;
-    sent = λ b is. let (n, short, now) = before.sent b is in (n, short, did.1 ∙ now);
-  },
-)
+sent_for Sending sent0 sent sent' count text number closing not_end numbered before did = (did.0, (before.0, cut_again sent0 sent sent' text before.0 before.1 did.1))
 
 -- nothing is asked of the part but at the end of the input
 concluded : (ends : parts.Ending) (ls : List (List ℕ)) (text : List ℕ) (halt : Halt) → halt ≢ Reading reading.End → ((stop : EndStop) → halt ≢ Ending stop) → Concludes ends ls text [] halt

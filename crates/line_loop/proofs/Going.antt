@@ -1,23 +1,6 @@
 -- What is read and sent, piece by piece.
-use Rattle.std.proofs.Common.{◌≡◌, ℕ, ◌<◌, List, [], ◌∷◌, ◌++◌, length, take, Option, Some, Result, Ok, Err, refl, ap, sym, ◌∙◌, append-nil}
-use Rattle.std.specs.Prelude.{IfErr}
-use Rattle.iot_bytes.specs.Streams.{Sends}
-use Rattle.iot_bytes.specs.declared.sink.WriteFault.{WriteFault}
-use Rattle.run_loop.specs.Sends.{HasSent}
+use Rattle.std.proofs.Common.{◌≡◌, ℕ, List, [], ◌∷◌, ◌++◌, Option, Some, refl}
 use Rattle.line_loop.specs.Lines.{IsTaken, AreTaken, HasTaken}
-use Rattle.line_loop.specs.Sends.{HasSentInto, Sent}
-
-pub sent_into : (sent0 sent sent' : Option (List ℕ)) (t u : List ℕ) → HasSent sent0 sent t → HasSentInto sent sent' [] u → HasSentInto sent0 sent' t u
-sent_into sent0 sent sent' t u s s' = λ before is.
-    let (n, short, now) = s' (before ++ t) (s before is) in
-    (n, short, now ∙ ap (λ (z : List ℕ). Some (z ++ take n u)) (append-nil (before ++ t)))
-
--- what `send` did
-pub sent_by : (old now : Option (List ℕ)) (bytes : List ℕ) (result : Result (Unit {0}) WriteFault) → Sends old now result (λ f. f.sent) bytes → IfErr result (λ f. f.sent < length bytes) → Sent old now bytes result
-sent_by old now bytes (Ok done) sends short = λ before is. sends.told before is
-sent_by old now bytes (Err fault) sends short = λ before is.
-    let (some, then) = sends.told before is in
-    (fault.sent, short, then ∙ ap (λ (z : List ℕ). Some (z ++ take fault.sent bytes)) (sym (append-nil before)))
 
 -- one more line was taken
 pub taken_push : (ls : List (List ℕ)) (l octets mid rest : List ℕ) → AreTaken ls octets mid → IsTaken l mid rest → AreTaken (ls ++ l ∷ []) octets rest

@@ -1,7 +1,7 @@
 -- A run over lines, and how it ends.
 use Rattle.std.specs.Prelude.{◌≡◌, ◌≢◌, ℕ, ◌+◌, ◌<◌, ◌≤◌, ◌⊎◌, List, length, Option, Some, Result, Ok, Err}
 use Rattle.run_loop.specs.Edges.{Edge, HasCauses}
-use Rattle.run_loop.specs.Sends.{HasSent}
+use Rattle.run_loop.specs.Sends.{HasSent, IsCutShort, Closed}
 use Rattle.run_loop.specs.declared.halt.SendStop.{SendStop}
 use Rattle.run_loop.specs.declared.halt.SendStop.TheVariants as sending
 use Rattle.run_loop.specs.Parts.{Walk}
@@ -14,7 +14,7 @@ use Rattle.line_loop.specs.declared.halt.RunEnd.{RunEnd}
 use Rattle.line_loop.specs.Lines.{IsTaken, NoLineAt, HasTaken}
 use Rattle.line_loop.specs.Parts as parts
 use Rattle.line_loop.specs.Parts.{Stopping}
-use Rattle.line_loop.specs.Sends.{IsCutShort, SentBehind, Closed, stop_line}
+use Rattle.line_loop.specs.Sends.{SentBehind, stop_line}
 use Rattle.line_loop.specs.Status.{halt_status, has_stop_line}
 
 -- These lines were handled, with this text, and the next line is due.
@@ -40,7 +40,7 @@ abbrev pub SentBefore : Option (List ℕ) → Option (List ℕ) → List ℕ →
 SentBefore sent0 sent text (Reading stop) = HasSent sent0 sent text
 SentBefore sent0 sent text (Handling stop) = HasSent sent0 sent text
 SentBefore sent0 sent text (Ending stop) = HasSent sent0 sent text
-SentBefore sent0 sent text Sending = IsCutShort sent0 sent text
+SentBefore sent0 sent text Sending = (last : List ℕ) × IsCutShort sent0 sent text last
 
 -- The number of the line in hand behind so many, from 1.
 abbrev pub IsNumbered : ℕ → ℕ → Halt → Type 0
@@ -81,7 +81,7 @@ Concludes ends ls text closing other = Unit {0}
 -- the stop line was wanting, the text.
 abbrev pub SentFor : Option (List ℕ) → Option (List ℕ) → ℕ → List ℕ → List ℕ → Halt → Result (Unit {0}) SendStop → Type 0
 SentFor sent0 sent count text closing (Reading reading.End) ended = SentBehind sent0 sent text closing ended
-SentFor sent0 sent count text closing Sending ended = (ended ≡ Ok tt) × IsCutShort sent0 sent text
+SentFor sent0 sent count text closing Sending ended = (ended ≡ Ok tt) × ((last : List ℕ) × IsCutShort sent0 sent text last)
 SentFor sent0 sent count text closing other ended = Closed (has_stop_line other) sent0 sent text (line_behind other count) ended
 
 -- The run is over.

@@ -17,5 +17,5 @@ mod serving;
 pub use halt::{EndStop, Halt, LineStop, NoLine, RunEnd};
 pub use part::LinePart;
 pub use reading::{MOST_LINES, MOST_OCTETS};
-pub use sending::{send_last, send_stopped};
+pub use sending::send_stop_line;
 pub use serving::serve_lines;

@@ -1,20 +1,17 @@
 //! The loop: a line is read and handled, and its text sent, before the next one is read.
 
-ghost use Rattle.std.specs.Prelude.{◌≡◌, ℕ, ◌<◌, ◌≤◌, List, Option, Err, OnOk};
+ghost use Rattle.std.specs.Prelude.{ℕ, ◌<◌, List, Option, OnOk};
 ghost use Rattle.run_loop.specs.Edges.{Edge, edge};
 ghost use Rattle.line_loop.specs.Parts.{Scene, scene};
 ghost use Rattle.line_loop.specs.Runs.{Progress, Turned, Halted, Ended};
-ghost use Rattle.line_loop.specs.Sends.{Closes, stop_line};
-ghost use Rattle.line_loop.specs.Status.{halt_status, has_stop_line};
 ghost use Rattle.line_loop.specs.declared.halt.Halt.TheVariants.{Reading};
-ghost use Rattle.iot_bytes.specs.Causes.{Rose};
 
 use crate::halt::{Halt, NoLine, RunEnd};
 use crate::part::LinePart;
 use crate::reading::{MOST_LINES, next_line, no_further};
-use crate::sending::{send_last, send_stopped, send_text};
+use crate::sending::send_stop_line;
 use iot_bytes::{Row, Sink, Source};
-use run_loop::SendStop;
+use run_loop::{send_last, send_octets};
 use std::alloc::Global;
 
 /// Why no more lines are handled, and the number of the line in hand, from 1.
@@ -47,7 +44,7 @@ fn turn<B, M, P: LinePart<B, M>, S: Source, K: Sink>(
     let line = next_line(alloc, source)?;
     let mut out = Row::new(alloc);
     part.handle(alloc, line.as_slice(), bench, modems, &mut out)?;
-    send_text(out.as_slice(), sink)?;
+    send_octets(out.as_slice(), sink)?;
     Ok(())
 }
 
@@ -84,20 +81,6 @@ fn handle<B, M, P: LinePart<B, M>, S: Source, K: Sink>(
     }
 }
 
-// Writes the stop line, where the reason has one.
-fn close<K: Sink>(alloc: Global, halt: Halt, number: u64, sink: &mut K) -> Result<(), SendStop>
-    ensures closes { Closes (has_stop_line halt) (K.sent sink.old) (K.sent sink.new)
-        (stop_line (halt_status halt) number) result }
-    ensures fault { result ≡ Err SendStop.Fault → Rose (K.faults sink.old) (K.faults sink.new) }
-    ensures monotone { K.faults sink.old ≤ K.faults sink.new }
-{
-    if halt.has_stop_line() {
-        send_stopped(alloc, halt.status(), number, sink)
-    } else {
-        Ok(())
-    }
-}
-
 // Sends the closing text at the end of the input, or the stop line where it may not end there.
 fn finish<B, M, P: LinePart<B, M>, K: Sink>(
     alloc: Global,
@@ -124,7 +107,7 @@ fn finish<B, M, P: LinePart<B, M>, K: Sink>(
         }
         Err(stop) => {
             let halt = Halt::Ending(stop);
-            let closing = close(alloc, halt, number, sink);
+            let closing = send_stop_line(alloc, halt, number, sink);
             RunEnd { halt, closing }
         }
     }
@@ -153,7 +136,7 @@ pub fn serve_lines<B, M, P: LinePart<B, M>, S: Source, K: Sink>(
     if last.halt.is_end() {
         return finish(alloc, part, last.number, sink);
     }
-    let closing = close(alloc, last.halt, last.number, sink);
+    let closing = send_stop_line(alloc, last.halt, last.number, sink);
     RunEnd {
         halt: last.halt,
         closing,

@@ -10,12 +10,12 @@ use Rattle.package_codec.specs.Replies.{unit_of, after}
 use Rattle.undo_journal.specs.Home.{is_open}
 use Rattle.card_store.specs.Standing.{Stands}
 use Rattle.card_store.specs.Looking.{Looks}
-use Rattle.card_store.specs.Holding.{Mark, Holds, IsHeld, StandsAt, standing}
+use Rattle.card_store.specs.Holding.{Mark, Holds, IsHeld, StandsAt, standing, tried}
 use Rattle.card_store.proofs.Holding.{loss_held}
 use Rattle.card_store.proofs.Looking.{untouched_looks}
 use Rattle.euicc_core.specs.Answers.{Answers}
 use Rattle.euicc_core.proofs.Kept.{step_held, look_held, first_held}
-use Rattle.lone_card.specs.Marks.{tried, opened}
+use Rattle.lone_card.specs.Marks.{opened}
 use Rattle.lone_card.specs.Benches.{HoldsFrom, IsSettledOn, Rests, IsTopped, GoesOn, BreaksOff}
 
 -- a look leaves the chip at rest
@@ -63,6 +63,7 @@ held_at s first h marks older u told same holds = record {
 -- an answered command
 answered_rests : (s t : Seen) (first : ℕ) (h : History) (c : Command) (marks : List Mark) → Sound 346624 s → Sound 346624 t → s.told ≡ true → Answers (StandsAt h (unit_of h c)) (full_of (after h c)) s t
     → IsTopped (Some h) marks → Rests s first (Some h) marks → Rests t first (Some (after h c)) (standing (after h c) ∷ tried (unit_of h c) marks)
+unfolding tried
 answered_rests s t first h c marks before now told a top at =
     let held = held_at s first h marks top.0 (unit_of h c) told top.1 at.holds in
     record {
@@ -73,6 +74,7 @@ answered_rests s t first h c marks before now told a top at =
 -- a command whose step was lost
 lost_holds : (s t : Seen) (first : ℕ) (h : History) (u : Option CardUnit) (marks : List Mark) → Sound 346624 s → s.told ≡ true → Ran 10000 false (StandsAt h u) s t
     → IsTopped (Some h) marks → Rests s first (Some h) marks → Holds t first h (tried u marks)
+unfolding tried
 lost_holds s t first h u marks before told r top at =
     let held = held_at s first h marks top.0 u told top.1 at.holds in
     subst (λ (m : List Mark). Holds t first h (tried u m)) (sym top.1) (loss_held s t first 10000 false h (standing h) top.0 u held r)

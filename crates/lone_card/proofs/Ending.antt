@@ -16,6 +16,7 @@ use Rattle.run_loop.specs.declared.reading.TheConstants.{MOST_FRAMES}
 use Rattle.run_loop.specs.Breaks.{IsUnfit}
 use Rattle.run_loop.specs.Edges.{Edge, HasCauses}
 use Rattle.run_loop.specs.Frames.{framed, IsShort}
+use Rattle.iot_bytes.specs.Frames.{frame}
 use Rattle.es10_codec.specs.Spelling.{stopped}
 use Rattle.small_card.specs.Cards.{FullCard}
 use Rattle.card_store.specs.Standing.{Stands}
@@ -101,7 +102,7 @@ six old new s t end n ran calm = elim n.reason [
       ap (λ (h : Halt). exit_status h end.closing) halt ∙ closed_six end.closing (silent n.stop none n.ended.sent)
 ]
   where
-    silent : (stop : PartStop) → stop ≡ answering.NoMemory → Closes (has_record (Answering stop)) old.sent new.sent (stopped (part_status stop) 0) end.closing → end.closing ≡ Ok tt
+    silent : (stop : PartStop) → stop ≡ answering.NoMemory → Closes (has_record (Answering stop)) old.sent new.sent (frame (stopped (part_status stop) 0)) end.closing → end.closing ≡ Ok tt
     silent answering.NoMemory is c = c.0
     silent answering.ChipFault is c = absurd cc
     silent answering.Malformed is c = absurd cc

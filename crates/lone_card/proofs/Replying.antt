@@ -18,14 +18,14 @@ use Rattle.small_card.proofs.Fresh.{fresh_valid}
 use Rattle.small_card.proofs.Validity.{full_start, alone_legal}
 use Rattle.package_codec.specs.Replies.{unit_of, after}
 use Rattle.es10_codec.specs.Reading.{command_at}
-use Rattle.card_store.specs.Holding.{standing}
+use Rattle.card_store.specs.Holding.{standing, tried}
 use Rattle.card_store.specs.Looking.{HasCauseOf}
 use Rattle.euicc_core.specs.Steps.{IsReply, Steps, HasCauseOfStep, ChipSteps, IsInRange}
 use Rattle.euicc_core.specs.declared.ends.StepEnd.{StepEnd}
 use Rattle.euicc_core.specs.declared.ends.StepEnd.TheVariants as step
 use Rattle.run_loop.specs.declared.halt.PartStop.TheVariants as stop
 use Rattle.lone_card.specs.Cards.{reply_of, after_command, reply_to, after_frame}
-use Rattle.lone_card.specs.Marks.{unit_by, unit_in, tried, marked, marks_after}
+use Rattle.lone_card.specs.Marks.{unit_by, unit_in, marked, marks_after}
 use Rattle.lone_card.specs.Answering.{StandsFor, Replied, IsBegun, of_step}
 use Rattle.lone_card.specs.Benches.{GoesOn, BreaksOff, Works, IsReady}
 use Rattle.lone_card.proofs.Chips.{looked, answered, lost}

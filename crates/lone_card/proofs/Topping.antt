@@ -4,9 +4,9 @@ use Rattle.small_card.specs.Histories.{History}
 use Rattle.small_card.specs.declared.types.Command.{Command}
 use Rattle.es10_codec.specs.Reading.{command_at}
 use Rattle.package_codec.specs.Replies.{unit_of}
-use Rattle.card_store.specs.Holding.{Mark}
+use Rattle.card_store.specs.Holding.{Mark, tried}
 use Rattle.lone_card.specs.Cards.{started, after_command, after_frame, history_of}
-use Rattle.lone_card.specs.Marks.{tried, marked, opened, marks_after, marks_from}
+use Rattle.lone_card.specs.Marks.{marked, opened, marks_after, marks_from}
 use Rattle.lone_card.specs.Benches.{IsTopped}
 
 pub marks_from-push : (o : Option History) (marks : List Mark) (fs : List (List ℕ)) (f : List ℕ) → marks_from o marks (fs ++ f ∷ []) ≡ marks_after (history_of o fs) (marks_from o marks fs) f

@@ -9,12 +9,12 @@ use Rattle.small_card.specs.Histories.{History, full_of}
 use Rattle.small_card.specs.declared.types.Answer.{Answer}
 use Rattle.small_card.specs.declared.types.Command.{Command}
 use Rattle.card_store.specs.Standing.{IsSettled}
-use Rattle.card_store.specs.Holding.{Mark, Holds, standing}
+use Rattle.card_store.specs.Holding.{Mark, Holds, standing, tried}
 use Rattle.euicc_core.specs.Steps.{IsLitOn}
 use Rattle.run_loop.specs.declared.halt.PartStop.{PartStop}
 use Rattle.run_loop.specs.declared.halt.PartStop.TheVariants.{ChipFault, Malformed, Unrecognised, NoMemory}
 use Rattle.lone_card.specs.Cards.{started, after_frame}
-use Rattle.lone_card.specs.Marks.{unit_in, tried, opened, marks_after}
+use Rattle.lone_card.specs.Marks.{unit_in, opened, marks_after}
 use Rattle.lone_card.specs.Answering.{StandsFor}
 
 -- The chip holds the history with its marks, of which the oldest is that of the answer with this number; where there

@@ -5,7 +5,7 @@ use Rattle.small_card.specs.Histories.{History}
 use Rattle.small_card.specs.declared.types.Command.{Command}
 use Rattle.package_codec.specs.Replies.{unit_of, after}
 use Rattle.es10_codec.specs.Reading.{command_at}
-use Rattle.card_store.specs.Holding.{Mark, standing}
+use Rattle.card_store.specs.Holding.{Mark, standing, tried}
 use Rattle.lone_card.specs.Cards.{started, after_frame}
 
 -- The unit that a command is about to make, if any; a frame that is none makes no unit.
@@ -17,11 +17,6 @@ unit_by h None = None
 unfoldable pub unit_in : Option History → List ℕ → Option CardUnit
 unit_in (Some h) f = unit_by h (command_at f)
 unit_in None f = None
-
--- This unit, or none, was in progress after the last answer.
-abbrev pub tried : Option CardUnit → List Mark → List Mark
-tried u [] = []
-tried u (m ∷ older) = record m { attempt = u } ∷ older
 
 -- The marks after a command: its unit is the attempt of the last one, and the history after it has a mark of its own.
 -- A frame that is no command needs no answer of the chip.

@@ -9,7 +9,7 @@ use Rattle.small_card.specs.Histories.{History}
 use Rattle.small_card.specs.Legal.{IsLegal}
 use Rattle.card_store.specs.Standing.{Stands}
 use Rattle.card_store.specs.Loading.{IsKept}
-use Rattle.card_store.specs.Holding.{Mark}
+use Rattle.card_store.specs.Holding.{Mark, tried}
 use Rattle.card_store.specs.Looking.{HasCauseOf}
 use Rattle.euicc_core.specs.Openings.{IsUnopened as IsShut}
 use Rattle.run_loop.specs.declared.halt.PartStop.{PartStop}
@@ -20,7 +20,7 @@ use Rattle.run_loop.specs.Edges.{Edge}
 use Rattle.run_loop.specs.Runs.{Ended, IsUnopened}
 use Rattle.run_loop.specs.Status.{exit_status}
 use Rattle.lone_card.specs.Cards.{history_of}
-use Rattle.lone_card.specs.Marks.{unit_in, tried, opened, marks_of}
+use Rattle.lone_card.specs.Marks.{unit_in, opened, marks_of}
 use Rattle.lone_card.specs.Answering.{StandsFor, AreAnswered, HasNoReply}
 use Rattle.lone_card.specs.Benches.{HoldsFrom, Rests, IsReady}
 use Rattle.lone_card.specs.Walks.{IsLater}

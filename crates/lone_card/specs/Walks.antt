@@ -9,7 +9,8 @@ use Rattle.small_card.specs.Histories.{History}
 use Rattle.run_loop.specs.declared.halt.PartStop.{PartStop}
 use Rattle.run_loop.specs.declared.halt.PartStop.TheVariants.{ChipFault, Malformed, Unrecognised, NoMemory}
 use Rattle.lone_card.specs.Cards.{history_of}
-use Rattle.lone_card.specs.Marks.{unit_in, tried, opened, marks_of}
+use Rattle.card_store.specs.Holding.{tried}
+use Rattle.lone_card.specs.Marks.{unit_in, opened, marks_of}
 use Rattle.lone_card.specs.Answering.{StandsFor, AreAnswered, HasNoReply}
 use Rattle.lone_card.specs.Benches.{HoldsFrom, Rests}
 

@@ -1,8 +1,7 @@
 //! A run of the card: it is opened, and then answers frames.
 
-ghost use Rattle.std.specs.Prelude.{◌≡◌, ◌≢◌, ◌⊎◌, ◌++◌, ℕ, List, Some, true};
+ghost use Rattle.std.specs.Prelude.{◌≡◌, ◌≢◌, ◌⊎◌, ◌++◌, ℕ, List, Some};
 ghost use Rattle.iot_bytes.specs.Causes.{Rose};
-ghost use Rattle.chip_port.specs.Rules.{IfTold};
 ghost use Rattle.run_loop.specs.Edges.{edge, HasCauses};
 ghost use Rattle.run_loop.specs.Frames.{framed};
 ghost use Rattle.lone_card.specs.Runs.{Opens, Ran, Served, HasFaults};

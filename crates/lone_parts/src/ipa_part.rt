@@ -5,7 +5,6 @@ ghost use Rattle.sgp_values.specs.Eids.{IsEid};
 ghost use Rattle.esipa_codec.specs.Assistant.{IpaEvent, answered as came, poll, restart};
 ghost use Rattle.ipa_core.specs.Assistants.{IsIpa};
 ghost use Rattle.part_records.specs.Ranges.{AreDeeds};
-ghost use Rattle.part_records.specs.Spelling.{IsFramable};
 ghost use Rattle.lone_parts.specs.Ipas.{Did, IsFit, IsSome, Replied, deeds_of, event_of};
 
 use crate::unread::unread;

@@ -2,7 +2,6 @@
 
 ghost use Rattle.std.specs.Prelude.{◌≡◌, ◌≢◌, ◌⊎◌, ◌++◌, ℕ, List, [], Some};
 ghost use Rattle.iot_bytes.specs.Causes.{Rose};
-ghost use Rattle.esipa_codec.specs.Assistant.{IpaEvent};
 ghost use Rattle.esipa_codec.specs.Eims.{new_eim};
 ghost use Rattle.run_loop.specs.Edges.{edge, HasCauses};
 ghost use Rattle.run_loop.specs.Frames.{framed};

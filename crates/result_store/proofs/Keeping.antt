@@ -11,15 +11,17 @@ use Rattle.small_card.specs.Cards.{Results}
 use Rattle.small_card.specs.Checks.{has_room}
 use Rattle.small_card.specs.Packages.{with_result}
 use Rattle.small_card.specs.Units.{has_seq, is_pending, without_result, with_mark, marked}
+use Rattle.small_card.specs.Numbered.{IsGiven}
 use Rattle.small_card.specs.Ranges.{IsBefore}
 use Rattle.small_card.specs.Valid.{IsPending, AreResults}
 use Rattle.small_card.specs.declared.types.PackageResult.{PackageResult}
 use Rattle.small_card.proofs.ListLemmas.{every_mono, every_push, every_append, every_filter, every_map, every_all, pair_push, pair_filter, length_filter}
 use Rattle.small_card.proofs.ResultLemmas.{marked_few, marked_rising}
+use Rattle.small_card.proofs.NumberTests.{given_later}
 use Rattle.result_store.proofs.Passing.{any_of_none, any_of_some, without_of_none}
 use Rattle.result_store.specs.declared.store.RemoveEnd.{RemoveEnd}
 use Rattle.result_store.specs.declared.store.RemoveEnd.TheVariants.{Absent}
-use Rattle.result_store.specs.Stores.{IsGiven, IsStore, passed}
+use Rattle.result_store.specs.Stores.{IsStore, passed}
 use Rattle.result_store.specs.Calls.{Call, put, remove, mark_rolled, pass_number, after_call, after_calls, MayCall, May}
 
 -- what room is
@@ -37,8 +39,8 @@ room_parts rs e =
 pub valid_store : (rs : Results) → AreResults rs → IsStore rs
 valid_store rs h = record {
   few = h.few;
-  each = every_mono (IsPending rs.next) (IsGiven rs.next) (λ r p. record { some = p.result.seq.some; given = p.given }) rs.pending h.each;
-  rising = h.rising;
+  each = every_mono (IsPending rs.next) (λ r. IsGiven rs.next r.seq) (λ r p. record { some = p.result.seq.some; given = p.given }) rs.pending h.each;
+  pairs = h.rising;
   next = h.next;
 }
 
@@ -47,15 +49,12 @@ same_store rs ps n h e f =
     let p : IsStore (record { pending = ps; next = rs.next }) = subst (λ (qs : List PackageResult). IsStore (record { pending = qs; next = rs.next })) (sym e) h in
     subst (λ (m : ℕ). IsStore (record { pending = ps; next = m })) (sym f) p
 
-given_later : (n : ℕ) (r : PackageResult) → IsGiven n r → IsGiven (n + 1) r
-given_later n r h = record { some = h.some; given = omega (arith, h.given) }
-
 pub put_store : (r : PackageResult) (rs : Results) → r.seq ≡ rs.next → length rs.pending < 8 → rs.next ≤ 4294967294 → IsStore rs → IsStore (with_result r rs)
 unfolding with_result
 put_store r rs e few room h = record {
   few = let l : length (rs.pending ++ r ∷ []) ≡ length rs.pending + 1 = length-append rs.pending (r ∷ []) in omega (arith, l, few);
-  each = every_push (IsGiven (rs.next + 1)) rs.pending r (every_mono (IsGiven rs.next) (IsGiven (rs.next + 1)) (given_later rs.next) rs.pending h.each) (record { some = omega (arith, e, h.next.some); given = omega (arith, e) });
-  rising = pair_push IsBefore rs.pending r h.rising (every_mono (IsGiven rs.next) (λ x. IsBefore x r) (λ x p. omega (arith, p.given, e)) rs.pending h.each);
+  each = every_push (λ r. IsGiven (rs.next + 1) r.seq) rs.pending r (every_mono (λ r. IsGiven rs.next r.seq) (λ r. IsGiven (rs.next + 1) r.seq) (λ r. given_later rs.next r.seq) rs.pending h.each) (record { some = omega (arith, e, h.next.some); given = omega (arith, e) });
+  pairs = pair_push IsBefore rs.pending r h.pairs (every_mono (λ r. IsGiven rs.next r.seq) (λ x. IsBefore x r) (λ x p. omega (arith, p.given, e)) rs.pending h.each);
   next = record { some = omega arith; fits = omega (arith, room) };
 }
 
@@ -63,8 +62,8 @@ pub removed_store : (seq : ℕ) (rs : Results) → IsStore rs → IsStore (witho
 unfolding without_result
 removed_store seq rs h = record {
   few = let l : length (without (has_seq seq) rs.pending) ≤ length rs.pending = length_filter (λ r. not (has_seq seq r)) rs.pending in omega (arith, l, h.few);
-  each = every_filter (IsGiven rs.next) (λ r. not (has_seq seq r)) rs.pending h.each;
-  rising = pair_filter IsBefore (λ r. not (has_seq seq r)) rs.pending h.rising;
+  each = every_filter (λ r. IsGiven rs.next r.seq) (λ r. not (has_seq seq r)) rs.pending h.each;
+  pairs = pair_filter IsBefore (λ r. not (has_seq seq r)) rs.pending h.pairs;
   next = h.next;
 }
 
@@ -72,10 +71,10 @@ pub marked_store : (seq : ℕ) (rs : Results) → rs.next ≤ 4294967294 → IsS
 unfolding marked
 marked_store seq rs room h = record {
   few = marked_few seq rs.next 8 rs.pending h.few;
-  each = every_append (IsGiven (rs.next + 1)) (without (has_seq seq) rs.pending) (map (with_mark rs.next) (filter (has_seq seq) rs.pending))
-      (every_mono (IsGiven rs.next) (IsGiven (rs.next + 1)) (given_later rs.next) (without (has_seq seq) rs.pending) (every_filter (IsGiven rs.next) (λ r. not (has_seq seq r)) rs.pending h.each))
-      (every_map (λ y. Unit {0}) (IsGiven (rs.next + 1)) (with_mark rs.next) (λ y _. record { some = h.next.some; given = omega arith }) (filter (has_seq seq) rs.pending) (every_all (λ y. Unit {0}) (λ y. tt) (filter (has_seq seq) rs.pending)));
-  rising = marked_rising (IsGiven rs.next) seq rs.next (λ x p. p.given) rs.pending h.rising h.each;
+  each = every_append (λ r. IsGiven (rs.next + 1) r.seq) (without (has_seq seq) rs.pending) (map (with_mark rs.next) (filter (has_seq seq) rs.pending))
+      (every_mono (λ r. IsGiven rs.next r.seq) (λ r. IsGiven (rs.next + 1) r.seq) (λ r. given_later rs.next r.seq) (without (has_seq seq) rs.pending) (every_filter (λ r. IsGiven rs.next r.seq) (λ r. not (has_seq seq r)) rs.pending h.each))
+      (every_map (λ y. Unit {0}) (λ r. IsGiven (rs.next + 1) r.seq) (with_mark rs.next) (λ y _. record { some = h.next.some; given = omega arith }) (filter (has_seq seq) rs.pending) (every_all (λ y. Unit {0}) (λ y. tt) (filter (has_seq seq) rs.pending)));
+  pairs = marked_rising (λ r. IsGiven rs.next r.seq) seq rs.next (λ x p. p.given) rs.pending h.pairs h.each;
   next = record { some = omega arith; fits = omega (arith, room) };
 }
 
@@ -83,8 +82,8 @@ pub passed_store : (rs : Results) → rs.next ≤ 4294967294 → IsStore rs → 
 unfolding passed
 passed_store rs room h = record {
   few = h.few;
-  each = every_mono (IsGiven rs.next) (IsGiven (rs.next + 1)) (given_later rs.next) rs.pending h.each;
-  rising = h.rising;
+  each = every_mono (λ r. IsGiven rs.next r.seq) (λ r. IsGiven (rs.next + 1) r.seq) (λ r. given_later rs.next r.seq) rs.pending h.each;
+  pairs = h.pairs;
   next = record { some = omega arith; fits = omega (arith, room) };
 }
 

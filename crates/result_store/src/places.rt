@@ -2,36 +2,14 @@
 
 ghost use Rattle.std.specs.Prelude.{◌≡◌, ◌<◌, ◌≤◌, ◌+◌, ◌++◌, ◌∷◌, [], length, map, filter, find};
 ghost use Rattle.std.specs.Prelude.{position, IfOk, IsSome};
-ghost use Rattle.std.specs.List.{list_all};
 ghost use Rattle.std.specs.Option.{option_copied, option_to_list};
 ghost use Rattle.small_card.specs.Lists.{EveryPair, without};
 ghost use Rattle.small_card.specs.Ranges.{IsBefore};
 ghost use Rattle.small_card.specs.Units.{has_seq, with_mark};
-ghost use Rattle.result_store.specs.Stores.{is_given, is_store};
 
 use iot_bytes::{NoMemory, Reserve};
-use small_card::limits::MOST_PENDING;
-use small_card::{PackageResult, are_all_apart};
+use small_card::PackageResult;
 use std::alloc::Global;
-
-fn is_given(kept: &PackageResult, next: u32) -> bool
-    ensures { result ≡ is_given next kept.now }
-{
-    1 <= kept.seq && kept.seq < next
-}
-
-fn are_given(rows: &[PackageResult], next: u32) -> bool
-    ensures { result ≡ list_all (is_given next) rows.now }
-{
-    rows.iter().all(|kept| is_given(kept, next))
-}
-
-#[tactic(auto, unfolding(crate::specs::Stores::is_store))]
-pub(crate) fn is_store(rows: &[PackageResult], next: u32) -> bool
-    ensures { result ≡ is_store (record { pending = rows.now; next = next }) }
-{
-    rows.len() <= MOST_PENDING && 1 <= next && are_given(rows, next) && are_all_apart(rows)
-}
 
 fn place_of(rows: &[PackageResult], seq: u32) -> Option<usize>
     ensures { result ≡ position (has_seq seq) rows.now }

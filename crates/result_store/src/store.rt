@@ -6,11 +6,11 @@ ghost use Rattle.result_store.specs.Calls as call;
 ghost use Rattle.result_store.specs.Calls.{after_call};
 ghost use Rattle.result_store.specs.Stores.{IsStore};
 
-use crate::places::{copy_results, find_result, is_store, mark_last, put_last, take_out};
+use crate::places::{copy_results, find_result, mark_last, put_last, take_out};
 use iot_bytes::{NoMemory, Reserve, Row};
 use sgp_values::EimId;
 use small_card::limits::MOST_PENDING;
-use small_card::{Item, PackageResult};
+use small_card::{Item, PackageResult, are_numbered};
 use std::alloc::Global;
 use std::marker::Model;
 
@@ -73,11 +73,10 @@ impl Store {
     /// Whether these results and the next number may stand in a store, as [`Store::of`] wants it:
     /// at most 8 results in rising numbers, each from 1 to below the next one, which is from 1. It
     /// takes no memory.
-    #[tactic(auto, using(crate::proofs::Testing::tested_exactly))]
     pub fn fits(pending: &[PackageResult], next: u32) -> bool
         ensures exact { (result ≡ true) ↔ IsStore (record { pending = pending.now; next = next }) }
     {
-        is_store(pending, next)
+        are_numbered(pending, MOST_PENDING, next)
     }
 
     /// The store of these results, none or at most 8, whose next result gets the number `next`.

@@ -40,7 +40,7 @@ one_passes t (x ∷ xs) h e =
 pub mark_goes_last : (seq : ℕ) (rs : Results) → IsStore rs → is_pending seq rs.pending ≡ true → IsMarkedLast seq rs.next rs.pending (marked seq rs).pending
 unfolding is_pending marked
 mark_goes_last seq rs h e =
-    let one = one_passes (has_seq seq) rs.pending (rising_one seq rs.pending h.rising) e in
+    let one = one_passes (has_seq seq) rs.pending (rising_one seq rs.pending h.pairs) e in
     record {
       kept = one.one;
       found = one.found;

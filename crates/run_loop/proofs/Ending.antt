@@ -1,5 +1,5 @@
 -- The turns of a run, and how it ends.
-use Rattle.std.proofs.Common.{◌≡◌, ℕ, ◌+◌, ◌<◌, ◌≤◌, Bool, true, false, List, [], ◌∷◌, ◌++◌, length, Option, Some, Result, Ok, Err, refl, sym, subst, ◌∙◌, length-append, arith}
+use Rattle.std.proofs.Common.{◌≡◌, ℕ, ◌+◌, ◌<◌, ◌≤◌, List, [], ◌∷◌, ◌++◌, length, Option, Some, Result, Err, refl, sym, subst, ◌∙◌, length-append, arith}
 use Rattle.iot_bytes.specs.Causes.{Rose}
 use Rattle.iot_bytes.specs.Frames.{frame, IsLeft}
 use Rattle.iot_bytes.specs.declared.frame.TheConstants.{FRAME_HEAD_LEN}
@@ -14,12 +14,12 @@ use Rattle.run_loop.specs.declared.halt.Halt.{Halt}
 use Rattle.run_loop.specs.declared.halt.Halt.TheVariants.{Reading, Answering, Sending}
 use Rattle.run_loop.specs.Edges.{Edge, edge}
 use Rattle.run_loop.specs.Frames.{IsTaken, NoFrame}
-use Rattle.run_loop.specs.Sends.{HasSent, HasSentInto, Closes, Closed}
+use Rattle.run_loop.specs.Sends.{HasSent, HasSentInto, Closes}
 use Rattle.run_loop.specs.Status.{read_status, part_status, halt_status, has_record}
 use Rattle.run_loop.specs.Parts.{Walk, Stopping}
 use Rattle.run_loop.specs.Runs.{Progress, Halted, IsNumbered, SentBefore, SentFor, Ended, IsUnopened, record_behind}
 use Rattle.run_loop.proofs.Causes.{last_causes, more_causes, no_causes}
-use Rattle.run_loop.proofs.Going.{sent-more, sent-into, sent-none, taken-more, taken-none}
+use Rattle.run_loop.proofs.Going.{closed, cut_again, sent-more, sent-into, sent-none, taken-more, taken-none}
 
 -- no frame was answered yet
 pub at_first : (walk : Walk) (e : Edge) → walk [] [] → Progress walk e e 0
@@ -97,7 +97,7 @@ answer_no_more walk next stops old before now count f stop few p did taken same 
 -- the answer to a frame wasn't sent whole
 pub cut_short : (walk next : Walk) (stops : Stopping) (old before now : Edge) (count : ℕ) (f content : List ℕ) → count < MOST_FRAMES → Progress walk old before count
     → ((fs : List (List ℕ)) (text : List ℕ) → walk fs text → next (fs ++ f ∷ []) (text ++ frame content))
-    → ((octets : List ℕ) → before.rest ≡ Some octets → IsTaken f octets now.rest) → HasSentInto before.sent now.sent [] content
+    → ((octets : List ℕ) → before.rest ≡ Some octets → IsTaken f octets now.rest) → HasSentInto before.sent now.sent [] (frame content)
     → before.read_faults ≤ now.read_faults → before.write_faults ≤ now.write_faults → Rose before.write_faults now.write_faults → Halted next stops old now (count + 1) Sending
 cut_short walk next stops old before now count f content few p did taken sent read_later write_later rose = record {
   frames = p.frames ++ f ∷ [];
@@ -105,38 +105,23 @@ cut_short walk next stops old before now count f content few p did taken sent re
   few = omega (arith, few, length-append p.frames (f ∷ []), p.counted);
   numbered = omega (arith, length-append p.frames (f ∷ []), p.counted);
   reason = (did p.frames p.text p.stands, taken-more old.rest before.rest now.rest p.frames f p.taken taken);
-  sent = record { before = p.text; content = content; parts = refl; sent = sent-into old.sent before.sent now.sent p.text content p.sent sent };
+  sent = (content, record { before = p.text; parts = refl; sent = sent-into old.sent before.sent now.sent p.text (frame content) p.sent sent });
   causes = more_causes old before now p.causes read_later write_later (λ at. absurd cc) (λ at. rose);
 }
 
--- the frame that closes a run was sent behind a text, or not whole
-closed : (due : Bool) (sent0 sent sent' : Option (List ℕ)) (text content : List ℕ) (closing : Result (Unit {0}) SendStop) → HasSent sent0 sent text → Closes due sent sent' content closing → Closed due sent0 sent' text content closing
-closed false sent0 sent sent' text content closing before did = (did.0, λ b is. did.1 ∙ before b is)
-closed true sent0 sent sent' text content (Ok done) before did = sent-more sent0 sent sent' text (frame content) before did
-closed true sent0 sent sent' text content (Err sending.Fault) before did = sent-into sent0 sent sent' text content before did
-closed true sent0 sent sent' text content (Err sending.NoMemory) before did = λ b is. did ∙ before b is
-
 sent_for : (sent0 sent sent' : Option (List ℕ)) (fs : List (List ℕ)) (text : List ℕ) (number : ℕ) (halt : Halt) (closing : Result (Unit {0}) SendStop) → IsNumbered number (length fs) halt → SentBefore sent0 sent text halt
-    → Closes (has_record halt) sent sent' (stopped (halt_status halt) number) closing → SentFor sent0 sent' fs text halt closing
+    → Closes (has_record halt) sent sent' (frame (stopped (halt_status halt) number)) closing → SentFor sent0 sent' fs text halt closing
 sent_for sent0 sent sent' fs text number (Reading stop) closing numbered before did =
     closed (has_record (Reading stop)) sent0 sent sent' text (record_behind (read_status stop) (length fs)) closing before
-    (subst (λ (n : ℕ). Closes (has_record (Reading stop)) sent sent' (stopped (read_status stop) n) closing) numbered did)
+    (subst (λ (n : ℕ). Closes (has_record (Reading stop)) sent sent' (frame (stopped (read_status stop) n)) closing) numbered did)
 sent_for sent0 sent sent' fs text number (Answering stop) closing numbered before did =
     closed (has_record (Answering stop)) sent0 sent sent' text (record_behind (part_status stop) (length fs)) closing before
-    (subst (λ (n : ℕ). Closes (has_record (Answering stop)) sent sent' (stopped (part_status stop) n) closing) numbered did)
-sent_for sent0 sent sent' fs text number Sending closing numbered before did = (
-  did.0,
-  record {
-    before = before.before;
-    content = before.content;
-    parts = before.parts;
-    sent = λ b is. let (n, short, now) = before.sent b is in (n, short, did.1 ∙ now);
-  },
-)
+    (subst (λ (n : ℕ). Closes (has_record (Answering stop)) sent sent' (frame (stopped (part_status stop) n)) closing) numbered did)
+sent_for sent0 sent sent' fs text number Sending closing numbered before did = (did.0, (before.0, cut_again sent0 sent sent' text (frame before.0) before.1 did.1))
 
 -- the stop record was written, where one is due, or not whole
 pub ended : (behind : Walk) (stops : Stopping) (old : Edge) (rest : Option (List ℕ)) (reads : ℕ) (sent sent' : Option (List ℕ)) (writes writes' number : ℕ) (halt : Halt) (closing : Result (Unit {0}) SendStop)
-    → Halted behind stops old (edge rest reads sent writes) number halt → Closes (has_record halt) sent sent' (stopped (halt_status halt) number) closing
+    → Halted behind stops old (edge rest reads sent writes) number halt → Closes (has_record halt) sent sent' (frame (stopped (halt_status halt) number)) closing
     → writes ≤ writes' → (closing ≡ Err sending.Fault → Rose writes writes') → Ended behind stops old (edge rest reads sent' writes') (record { halt = halt; closing = closing })
 ended behind stops old rest reads sent sent' writes writes' number halt closing h did later rose = record {
   frames = h.frames;
@@ -149,7 +134,7 @@ ended behind stops old rest reads sent sent' writes writes' number halt closing 
 
 -- before the first frame
 pub unopened : (rest sent sent' : Option (List ℕ)) (reads writes writes' : ℕ) (stop : PartStop) (closing : Result (Unit {0}) SendStop)
-    → Closes (has_record (Answering stop)) sent sent' (stopped (part_status stop) 0) closing → writes ≤ writes' → (closing ≡ Err sending.Fault → Rose writes writes')
+    → Closes (has_record (Answering stop)) sent sent' (frame (stopped (part_status stop) 0)) closing → writes ≤ writes' → (closing ≡ Err sending.Fault → Rose writes writes')
     → IsUnopened stop (edge rest reads sent writes) (edge rest reads sent' writes') (record { halt = Answering stop; closing = closing })
 unopened rest sent sent' reads writes writes' stop closing did later rose = record {
   halts = refl;

@@ -1,5 +1,5 @@
 -- What is read and sent, piece by piece.
-use Rattle.std.proofs.Common.{◌≡◌, ℕ, ◌<◌, ◌≤◌, List, [], ◌∷◌, ◌++◌, length, take, Option, Some, Result, Ok, Err, refl, ap, sym, subst, ◌∙◌, append-nil, append_assoc, arith}
+use Rattle.std.proofs.Common.{◌≡◌, ℕ, ◌<◌, ◌≤◌, Bool, true, false, List, [], ◌∷◌, ◌++◌, length, take, Option, Some, Result, Ok, Err, refl, ap, sym, ◌∙◌, append-nil, append_assoc, arith}
 use Rattle.std.proofs.lemmas.Grind.{flat_map-append}
 use Rattle.std.specs.Prelude.{IfErr}
 use Rattle.std.specs.List.{AllByRecursion}
@@ -8,15 +8,17 @@ use Rattle.iot_bytes.specs.Frames.{frame}
 use Rattle.iot_bytes.specs.Streams.{Sends}
 use Rattle.iot_bytes.specs.declared.sink.WriteFault.{WriteFault}
 use Rattle.run_loop.specs.Frames.{framed, IsShort, IsTaken, HasTaken}
-use Rattle.run_loop.specs.Sends.{HasSent, HasSentInto, Sent}
+use Rattle.run_loop.specs.declared.halt.SendStop.{SendStop}
+use Rattle.run_loop.specs.declared.halt.SendStop.TheVariants as sending
+use Rattle.run_loop.specs.Sends.{HasSent, HasSentInto, Sent, IsCutShort, Closes, Closed}
 
 pub sent-more : (sent0 sent sent' : Option (List ℕ)) (t u : List ℕ) → HasSent sent0 sent t → HasSent sent sent' u → HasSent sent0 sent' (t ++ u)
 sent-more sent0 sent sent' t u s s' = λ before is. s' (before ++ t) (s before is) ∙ ap (λ (z : List ℕ). Some z) (append_assoc before t u)
 
-pub sent-into : (sent0 sent sent' : Option (List ℕ)) (t content : List ℕ) → HasSent sent0 sent t → HasSentInto sent sent' [] content → HasSentInto sent0 sent' t content
-sent-into sent0 sent sent' t content s s' = λ before is.
+pub sent-into : (sent0 sent sent' : Option (List ℕ)) (t u : List ℕ) → HasSent sent0 sent t → HasSentInto sent sent' [] u → HasSentInto sent0 sent' t u
+sent-into sent0 sent sent' t u s s' = λ before is.
     let (n, short, now) = s' (before ++ t) (s before is) in
-    (n, short, now ∙ ap (λ (z : List ℕ). Some (z ++ take n (frame content))) (append-nil (before ++ t)))
+    (n, short, now ∙ ap (λ (z : List ℕ). Some (z ++ take n u)) (append-nil (before ++ t)))
 
 pub sent-none : (sent : Option (List ℕ)) → HasSent sent sent []
 sent-none sent = λ before is. is ∙ ap (λ (z : List ℕ). Some z) (sym (append-nil before))
@@ -49,11 +51,23 @@ pub rose-until : (a b c : ℕ) → Rose a b → b ≤ c → Rose a c
 rose-until a b c rose low = omega (arith, low, rose)
 
 -- what `send` did
-pub sent_by : (old now : Option (List ℕ)) (bytes content : List ℕ) (result : Result (Unit {0}) WriteFault) → bytes ≡ frame content → Sends old now result (λ f. f.sent) bytes → IfErr result (λ f. f.sent < length bytes) → Sent old now content result
-sent_by old now bytes content (Ok done) same sends short = λ before is. sends.told before is ∙ ap (λ (x : List ℕ). Some (before ++ x)) same
-sent_by old now bytes content (Err fault) same sends short = λ before is.
-    let (some, then) = sends.told before is in (
-      fault.sent,
-      subst (λ (x : List ℕ). fault.sent < length x) same short,
-      then ∙ ap (λ (x : List ℕ). Some (before ++ take fault.sent x)) same ∙ ap (λ (z : List ℕ). Some (z ++ take fault.sent (frame content))) (sym (append-nil before)),
-    )
+pub sent_by : (old now : Option (List ℕ)) (bytes : List ℕ) (result : Result (Unit {0}) WriteFault) → Sends old now result (λ f. f.sent) bytes → IfErr result (λ f. f.sent < length bytes) → Sent old now bytes result
+sent_by old now bytes (Ok done) sends short = λ before is. sends.told before is
+sent_by old now bytes (Err fault) sends short = λ before is.
+    let (some, then) = sends.told before is in
+    (fault.sent, short, then ∙ ap (λ (z : List ℕ). Some (z ++ take fault.sent bytes)) (sym (append-nil before)))
+
+-- the last octets of a run were sent behind a text, or not whole
+pub closed : (due : Bool) (sent0 sent sent' : Option (List ℕ)) (text last : List ℕ) (closing : Result (Unit {0}) SendStop) → HasSent sent0 sent text → Closes due sent sent' last closing → Closed due sent0 sent' text last closing
+closed false sent0 sent sent' text last closing before did = (did.0, λ b is. did.1 ∙ before b is)
+closed true sent0 sent sent' text last (Ok done) before did = sent-more sent0 sent sent' text last before did
+closed true sent0 sent sent' text last (Err sending.Fault) before did = sent-into sent0 sent sent' text last before did
+closed true sent0 sent sent' text last (Err sending.NoMemory) before did = λ b is. did ∙ before b is
+
+-- what was cut short stays so where nothing is sent
+pub cut_again : (sent0 sent sent' : Option (List ℕ)) (text last : List ℕ) → IsCutShort sent0 sent text last → sent' ≡ sent → IsCutShort sent0 sent' text last
+cut_again sent0 sent sent' text last cut same = record {
+  before = cut.before;
+  parts = cut.parts;
+  sent = λ b is. let (n, short, now) = cut.sent b is in (n, short, same ∙ now);
+}

@@ -1,5 +1,6 @@
 -- A run over frames, and how it ends.
 use Rattle.std.specs.Prelude.{◌≡◌, ℕ, ◌+◌, ◌<◌, ◌≤◌, ◌⊎◌, List, length, Option, Some, Result, Ok, Err}
+use Rattle.iot_bytes.specs.Frames.{frame}
 use Rattle.es10_codec.specs.Spelling.{stopped}
 use Rattle.run_loop.specs.declared.reading.TheConstants.{MOST_FRAMES}
 use Rattle.run_loop.specs.declared.halt.ReadStop.TheVariants as reading
@@ -32,15 +33,16 @@ Reason behind stops rest0 rest fs text (Reading stop) = behind fs text × HasTak
 Reason behind stops rest0 rest fs text (Answering stop) = (f : List ℕ) × stops fs text f stop × HasTaken rest0 fs (λ tail. IsTaken f tail rest) × (length fs < MOST_FRAMES)
 Reason behind stops rest0 rest fs text Sending = behind fs text × HasTaken rest0 fs (λ tail. rest ≡ Some tail)
 
--- The stop record with this status behind so many frames: its number is that of the next frame, from 1.
+-- The frame of the stop record with this status behind so many frames: its number is that of the next frame, from 1.
 abbrev pub record_behind : ℕ → ℕ → List ℕ
-record_behind status count = stopped status (count + 1)
+record_behind status count = frame (stopped status (count + 1))
 
--- What was sent for these frames, by the reason that there are no more, before the stop record.
+-- What was sent for these frames, by the reason that there are no more, before the stop record. Where the sink
+-- failed, the last frame lacks its end.
 abbrev pub SentBefore : Option (List ℕ) → Option (List ℕ) → List ℕ → Halt → Type 0
 SentBefore sent0 sent text (Reading stop) = HasSent sent0 sent text
 SentBefore sent0 sent text (Answering stop) = HasSent sent0 sent text
-SentBefore sent0 sent text Sending = IsCutShort sent0 sent text
+SentBefore sent0 sent text Sending = (content : List ℕ) × IsCutShort sent0 sent text (frame content)
 
 -- The number of the frame in hand behind so many, from 1.
 abbrev pub IsNumbered : ℕ → ℕ → Halt → Type 0
@@ -68,7 +70,7 @@ Turned behind stops old now count (Err halt) = Halted behind stops old now (coun
 abbrev pub SentFor : Option (List ℕ) → Option (List ℕ) → List (List ℕ) → List ℕ → Halt → Result (Unit {0}) SendStop → Type 0
 SentFor sent0 sent fs text (Reading stop) closing = Closed (has_record (Reading stop)) sent0 sent text (record_behind (halt_status (Reading stop)) (length fs)) closing
 SentFor sent0 sent fs text (Answering stop) closing = Closed (has_record (Answering stop)) sent0 sent text (record_behind (halt_status (Answering stop)) (length fs)) closing
-SentFor sent0 sent fs text Sending closing = (closing ≡ Ok tt) × IsCutShort sent0 sent text
+SentFor sent0 sent fs text Sending closing = (closing ≡ Ok tt) × ((content : List ℕ) × IsCutShort sent0 sent text (frame content))
 
 -- The run is over.
 pub record Ended (behind : Walk) (stops : Stopping) (old new : Edge) (end : RunEnd) : Type 0 where
@@ -88,6 +90,6 @@ pub record IsUnopened (stop : PartStop) (old new : Edge) (end : RunEnd) : Type 0
   pub halts : end.halt ≡ Answering stop
   pub untaken : new.rest ≡ old.rest
   pub unread : new.read_faults ≡ old.read_faults
-  pub sent : Closes (has_record (Answering stop)) old.sent new.sent (stopped (part_status stop) 0) end.closing
+  pub sent : Closes (has_record (Answering stop)) old.sent new.sent (frame (stopped (part_status stop) 0)) end.closing
   -- a fault of the sink comes only where a call failed
   pub causes : HasCauses old new ⊥ (end.closing ≡ Err sending.Fault)

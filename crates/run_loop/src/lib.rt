@@ -16,6 +16,7 @@ mod serving;
 pub use halt::{Halt, PartStop, ReadStop, RunEnd, SendStop};
 pub use part::Part;
 pub use reading::MOST_FRAMES;
+pub use sending::{send_last, send_octets};
 pub use serving::{end_unopened, serve};
 
 #[cfg(test)]

@@ -1,19 +1,15 @@
 //! The loop: a frame is read, answered and sent before the next one is read.
 
-ghost use Rattle.std.specs.Prelude.{◌≡◌, ℕ, ◌<◌, ◌≤◌, List, Option, Err, IfOk, IfErr, OnOk};
+ghost use Rattle.std.specs.Prelude.{◌≡◌, ℕ, ◌<◌, List, Option, IfOk, IfErr, OnOk};
 ghost use Rattle.run_loop.specs.Edges.{Edge, edge};
 ghost use Rattle.run_loop.specs.Parts.{Replies};
 ghost use Rattle.run_loop.specs.Runs.{Progress, Turned, Halted, Ended, IsUnopened};
-ghost use Rattle.run_loop.specs.Sends.{Closes};
-ghost use Rattle.run_loop.specs.Status.{halt_status, has_record};
-ghost use Rattle.es10_codec.specs.Spelling.{stopped};
-ghost use Rattle.iot_bytes.specs.Causes.{Rose};
 ghost use Rattle.iot_bytes.specs.Frames.{blank_head};
 
-use crate::halt::{Halt, PartStop, ReadStop, RunEnd, SendStop};
+use crate::halt::{Halt, PartStop, ReadStop, RunEnd};
 use crate::part::Part;
 use crate::reading::{MOST_FRAMES, next_frame, no_further};
-use crate::sending::{send_frame, send_stopped};
+use crate::sending::{send_octets, send_stop_record};
 use iot_bytes::{NoMemory, Row, Sink, Source, begin_frame, end_frame};
 use std::alloc::Global;
 
@@ -78,7 +74,7 @@ fn turn<W, P: Part<W>, S: Source, K: Sink>(
     let mut out = empty_answer(alloc)?;
     let frame = next_frame(alloc, source)?;
     reply(alloc, part, outside, frame.as_slice(), &mut out)?;
-    send_frame(out.as_slice(), sink)?;
+    send_octets(out.as_slice(), sink)?;
     Ok(())
 }
 
@@ -113,20 +109,6 @@ fn handle<W, P: Part<W>, S: Source, K: Sink>(
     }
 }
 
-// Writes the stop record, where the reason has one.
-fn close<K: Sink>(alloc: Global, last: Last, sink: &mut K) -> Result<(), SendStop>
-    ensures closes { Closes (has_record last.halt) (K.sent sink.old) (K.sent sink.new)
-        (stopped (halt_status last.halt) last.number) result }
-    ensures fault { result ≡ Err SendStop.Fault → Rose (K.faults sink.old) (K.faults sink.new) }
-    ensures monotone { K.faults sink.old ≤ K.faults sink.new }
-{
-    if last.halt.has_record() {
-        send_stopped(alloc, last.halt.status(), last.number, sink)
-    } else {
-        Ok(())
-    }
-}
-
 /// Has the frames of a source answered, until something ends the run, and writes the stop record.
 /// The part is lent the outside for each frame.
 pub fn serve<W, P: Part<W>, S: Source, K: Sink>(
@@ -144,7 +126,7 @@ pub fn serve<W, P: Part<W>, S: Source, K: Sink>(
         result }
 {
     let last = handle(alloc, part, outside, source, sink);
-    let closing = close(alloc, last, sink);
+    let closing = send_stop_record(alloc, last.halt, last.number, sink);
     RunEnd {
         halt: last.halt,
         closing,
@@ -159,6 +141,6 @@ pub fn end_unopened<K: Sink>(alloc: Global, stop: PartStop, sink: &mut K) -> Run
         (edge rest reads (K.sent sink.new) (K.faults sink.new)) result }
 {
     let halt = Halt::Answering(stop);
-    let closing = close(alloc, Last { halt, number: 0 }, sink);
+    let closing = send_stop_record(alloc, halt, 0, sink);
     RunEnd { halt, closing }
 }

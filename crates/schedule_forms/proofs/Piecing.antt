@@ -5,13 +5,11 @@ use Rattle.std.proofs.lemmas.Grind.{flat_map-append}
 use Rattle.std.proofs.lemmas.List.{take-append-le}
 use Rattle.std.proofs.Math.Nat.{add-zero, add-suc}
 use Rattle.std.proofs.Math.Seq.{take-append-add}
-use Rattle.run_loop.specs.Sends.{HasSent}
+use Rattle.run_loop.specs.Sends.{HasSent, HasSentInto}
 use Rattle.run_loop.specs.declared.halt.SendStop.{SendStop}
 use Rattle.run_loop.specs.declared.halt.SendStop.TheVariants.{Fault, NoMemory}
-use Rattle.run_loop.proofs.Going.{sent-more, sent-none}
+use Rattle.run_loop.proofs.Going.{sent-into, sent-more, sent-none}
 use Rattle.line_loop.specs.Lines.{ended}
-use Rattle.line_loop.specs.Sends.{HasSentInto}
-use Rattle.line_loop.proofs.Going.{sent_into}
 use Rattle.iot_schedule.specs.Making.{made_line, state_before, state_after}
 use Rattle.schedule_forms.specs.Schedules.{made_lines, generated}
 use Rattle.schedule_forms.specs.Pieces.{InPieces, Passed, Flushed, MadeOne, Generated, gen_status}
@@ -69,7 +67,7 @@ flushed_ok start count sent0 sent sent' unsent p here =
 
 pub flushed_into : (start count : ℕ) (sent0 sent sent' : Option (List ℕ)) (unsent : List ℕ) → InPieces start count sent0 sent unsent → HasSentInto sent sent' [] unsent → HasSentInto sent0 sent' [] (generated start count)
 flushed_into start count sent0 sent sent' unsent p here =
-    into_whole sent0 sent' (generated start p.front.gone) unsent (generated start count) p.whole (sent_into sent0 sent sent' (generated start p.front.gone) unsent p.front.has_sent here)
+    into_whole sent0 sent' (generated start p.front.gone) unsent (generated start count) p.whole (sent-into sent0 sent sent' (generated start p.front.gone) unsent p.front.has_sent here)
 
 -- what was flushed is passed
 pub passed_by : (start count : ℕ) (sent0 sent : Option (List ℕ)) (unsent : List ℕ) (result : Result (Unit {0}) SendStop) → Flushed start count sent0 sent unsent result → Passed start count sent0 sent unsent result

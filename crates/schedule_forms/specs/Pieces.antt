@@ -1,9 +1,8 @@
 -- Sending a generated schedule in pieces.
 use Rattle.std.specs.Prelude.{◌≡◌, ℕ, ◌+◌, ◌≤◌, List, [], ◌++◌, Option, Result, Ok, Err}
-use Rattle.run_loop.specs.Sends.{HasSent}
+use Rattle.run_loop.specs.Sends.{HasSent, HasSentInto}
 use Rattle.run_loop.specs.declared.halt.SendStop.{SendStop}
 use Rattle.run_loop.specs.declared.halt.SendStop.TheVariants.{Fault, NoMemory}
-use Rattle.line_loop.specs.Sends.{HasSentInto}
 use Rattle.iot_schedule.specs.Making.{state_before}
 use Rattle.schedule_forms.specs.Schedules.{generated}
 

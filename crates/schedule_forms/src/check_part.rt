@@ -1,6 +1,6 @@
 //! What checks the lines of a schedule.
 
-ghost use Rattle.std.specs.Prelude.{◌≡◌, ◌≢◌, ◌++◌, ℕ, OnOk};
+ghost use Rattle.std.specs.Prelude.{◌≡◌, ◌≢◌, ◌++◌, OnOk};
 ghost use Rattle.schedule_forms.specs.Checks.{Fits, ok_line};
 ghost use Rattle.iot_schedule.specs.Devices.{device_at};
 ghost use Rattle.iot_schedule.specs.Steps.{step_at};

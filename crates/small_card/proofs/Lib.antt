@@ -15,5 +15,6 @@ pub mod Flags
 pub mod Prefixes
 pub mod Happening
 pub mod PairTests
+pub mod NumberTests
 pub mod Fresh
 pub mod Pending

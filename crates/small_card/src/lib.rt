@@ -7,6 +7,7 @@ mod copies;
 mod items;
 mod laws;
 pub mod limits;
+mod numbers;
 mod pairs;
 mod types;
 mod worked;
@@ -16,6 +17,7 @@ pub use laws::{
     counters_look_back, first_units_legal, fresh_is_valid, never_returns, one_more_unit,
     pairs_are_tested, pending_results_change, rollback_restores, stays_valid, takes_once,
 };
+pub use numbers::{Numbered, are_numbered};
 pub use pairs::{Apart, are_all_apart};
 pub use types::{
     Answer, Armed, Body, Command, Eco, EimEntry, EimLine, Item, Package, PackageResult, Profile,

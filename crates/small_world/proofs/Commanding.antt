@@ -18,9 +18,9 @@ use Rattle.package_codec.specs.Checks.{check}
 use Rattle.package_codec.specs.Replies.{unit_of_load, unit_of_rollback, unit_of, grown, after}
 use Rattle.package_codec.proofs.InRange.{reads_in_range}
 use Rattle.package_codec.proofs.Replying.{unit_may}
-use Rattle.card_store.specs.Holding.{Mark, standing}
+use Rattle.card_store.specs.Holding.{Mark, standing, tried}
 use Rattle.esipa_codec.specs.Eims.{EimState}
-use Rattle.small_world.specs.Stepping.{tried, attempt, answered_step, lost_step, commanded, woken, booted}
+use Rattle.small_world.specs.Stepping.{attempt, answered_step, lost_step, commanded, woken, booted}
 use Rattle.small_world.specs.Worlds.{SmallWorld}
 use Rattle.small_world.proofs.HasLemmas.{if_some}
 use Rattle.small_world.proofs.Invariant.{IsSpelled, MayCome, Keeps, KeepsWorld, keeps_grown, keeps_tried}

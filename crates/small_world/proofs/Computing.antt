@@ -24,7 +24,8 @@ use Rattle.esipa_codec.specs.Assistant.{is_failed_probe, ends_failures, failures
 use Rattle.trace_text.specs.Texts.{item_text, item_entry, items_text, refused_text, profile_entry, package_text, eim_entry, pending_entry, profiles_text, eims_text, pending_text, card_text, record_entry, kept_text}
 use Rattle.small_world.specs.Worlds.{started, start_world}
 use Rattle.small_world.specs.Network.{is_known, eim_of, at_eim, picked, joined, replies_of, gone_up}
-use Rattle.small_world.specs.Stepping.{tried, attempt, commanded, booted}
+use Rattle.card_store.specs.Holding.{tried}
+use Rattle.small_world.specs.Stepping.{attempt, commanded, booted}
 use Rattle.small_world.specs.Acting.{command_of, posts_of, told_answer, asked_card, acts}
 use Rattle.small_world.specs.Lines.{polled, gone_down, handed, acted, attended}
 use Rattle.small_world.specs.Texts.{said, places_text, sent_text, bind_text, order_text, skip_text, message_text, answer_text, modem_entry, modems_text}

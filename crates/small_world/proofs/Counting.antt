@@ -8,7 +8,7 @@ use Rattle.small_card.specs.declared.types.Answer.TheVariants as answer
 use Rattle.small_card.specs.declared.types.Command.{Command}
 use Rattle.small_card.specs.declared.types.Command.TheVariants as command
 use Rattle.package_codec.specs.Replies.{reply, unit_of}
-use Rattle.card_store.specs.Holding.{Mark}
+use Rattle.card_store.specs.Holding.{Mark, tried}
 use Rattle.esipa_codec.specs.Assistant.{IpaEvent, poll, push, message, probe, restart, act_of}
 use Rattle.esipa_codec.specs.declared.messages.Post.{Post}
 use Rattle.iot_schedule.specs.declared.types.Line.{Line}
@@ -19,7 +19,7 @@ use Rattle.small_world.specs.Acting.{command_of, posts_of, hearing, told_answer,
 use Rattle.small_world.specs.Lines.{told_loaded, handed, polled, gone_down, acted, attended}
 use Rattle.small_world.specs.Network.{is_known, picked, joined, gone_up}
 use Rattle.small_world.specs.Runs.{Turn, given, brought, steps_card, after_turn, world_after}
-use Rattle.small_world.specs.Stepping.{tried, lost_step, answered_step, commanded, booted}
+use Rattle.small_world.specs.Stepping.{lost_step, answered_step, commanded, booted}
 use Rattle.small_world.specs.Stretches.{Fate, fate_of, fates, stretched, stretches}
 use Rattle.small_world.specs.Worlds.{SmallWorld, started, start_world, eid_of}
 use Rattle.small_world.specs.declared.reply.Reply.{Reply}

@@ -10,7 +10,7 @@ use Rattle.small_card.specs.declared.types.Command.TheVariants as command
 use Rattle.small_card.specs.declared.types.Package.{Package}
 use Rattle.small_card.specs.declared.types.Refused.{Refused}
 use Rattle.std.proofs.Common.{Result, Ok, Err}
-use Rattle.card_store.specs.Holding.{Mark}
+use Rattle.card_store.specs.Holding.{Mark, tried}
 use Rattle.package_codec.specs.Checks.{check}
 use Rattle.package_codec.specs.Replies.{reply, unit_of_load, unit_of, after}
 use Rattle.esipa_codec.specs.Assistant.{IpaEvent, poll, push, message, probe, restart, act_of}
@@ -21,7 +21,7 @@ use Rattle.small_world.specs.Acting.{command_of, posts_of, hearing, told_answer,
 use Rattle.small_world.specs.Lines.{told_loaded, handed, polled, gone_down, acted}
 use Rattle.small_world.specs.Network.{is_known, picked, joined, gone_up}
 use Rattle.small_world.specs.Runs.{given, brought, is_boot}
-use Rattle.small_world.specs.Stepping.{tried, attempt, lost_step, answered_step, commanded, IsSameCard}
+use Rattle.small_world.specs.Stepping.{attempt, lost_step, answered_step, commanded, IsSameCard}
 use Rattle.small_world.specs.Stretches.{is_cut}
 use Rattle.small_world.specs.Taking.{Hands}
 use Rattle.small_world.specs.Worlds.{SmallWorld, eid_of}

@@ -12,7 +12,7 @@ use Rattle.iot_schedule.specs.declared.types.Line.{Line}
 use Rattle.iot_schedule.specs.declared.types.Line.TheVariants as line
 use Rattle.iot_schedule.specs.declared.types.Pick.TheVariants.{At}
 use Rattle.small_world.specs.Printing.{printed}
-use Rattle.small_world.specs.Runs.{Turn, MayTurn, after_turn}
+use Rattle.small_world.specs.Runs.{Turn, kept_on, MayTurn, after_turn}
 use Rattle.small_world.specs.Worlds.{SmallWorld, start_world}
 
 -- Three profiles, of which none is enabled.
@@ -26,10 +26,6 @@ home_device = record { eid = card_eid; profiles = home_on }
 -- Two modems that show nothing and were never refreshed.
 abbrev pub two_modems : List Seen
 two_modems = (None, 0) ∷ (None, 0) ∷ []
-
--- A line whose step, if any, is answered; a boot doesn't take what was in progress.
-abbrev pub kept_on : Line → Turn
-kept_on l = record { line = l; lost = false; taken = false }
 
 -- A line that is lost.
 abbrev pub lost_on : Line → Turn

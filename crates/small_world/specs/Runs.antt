@@ -64,6 +64,10 @@ pub record Turn : Type 0 where
   pub lost : Bool
   pub taken : Bool
 
+-- A line whose step, if any, is answered; a boot doesn't take what was in progress.
+abbrev pub kept_on : Line → Turn
+kept_on l = record { line = l; lost = false; taken = false }
+
 -- A boot takes an attempt that there is, of a dark card, unless it is lost itself.
 pub record MayTake (w : SmallWorld) (t : Turn) : Type 0 where
   pub boot : is_boot t.line ≡ true

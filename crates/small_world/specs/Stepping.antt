@@ -5,13 +5,8 @@ use Rattle.small_card.specs.Histories.{History}
 use Rattle.small_card.specs.Units.{CardUnit}
 use Rattle.small_card.specs.declared.types.Command.{Command}
 use Rattle.package_codec.specs.Replies.{unit_of, grown, after}
-use Rattle.card_store.specs.Holding.{Mark, standing}
+use Rattle.card_store.specs.Holding.{Mark, standing, tried}
 use Rattle.small_world.specs.Worlds.{SmallWorld}
-
--- The newest mark has this attempt.
-unfoldable pub tried : Option CardUnit → List Mark → List Mark
-tried u [] = []
-tried u (m ∷ older) = record m { attempt = u } ∷ older
 
 -- The attempt of the newest mark.
 unfoldable pub attempt : List Mark → Option CardUnit

@@ -1,15 +1,10 @@
 -- A unit that keeps all blocks and writes two of them: the statement of an example.
-use Rattle.std.specs.Prelude.{◌≡◌, ◌⊎◌, ℕ, ◌+◌, zero, suc, Bool, true, List, [], ◌∷◌, Some}
+use Rattle.std.specs.Prelude.{◌≡◌, ◌⊎◌, ℕ, Bool, true, List, Some}
 use Rattle.chip_port.specs.Seen.{Seen}
 use Rattle.chip_port.specs.Rules.{put}
 use Rattle.chip_port.specs.Runs.{Ran}
 use Rattle.undo_journal.specs.Home.{home, home_in}
 use Rattle.undo_journal.specs.States.{IsIdle}
-
--- so many numbers from this one on
-abbrev pub up_from : ℕ → ℕ → List ℕ
-up_from first zero = []
-up_from first (suc n) = first ∷ up_from (first + 1) n
 
 -- a home with these octets as its first and its last block
 abbrev pub with_two : List ℕ → List ℕ → List ℕ → List ℕ

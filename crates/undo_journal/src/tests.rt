@@ -4,7 +4,8 @@
 ghost use Rattle.std.specs.Prelude.{◌≡◌, ◌+◌, ◌≤◌, length, is_ok, OnOk, IfOk};
 ghost use Rattle.chip_port.specs.Rules.{HasCause, IfTold};
 ghost use Rattle.undo_journal.specs.States.{IsIdle, TakesAtMost};
-ghost use Rattle.undo_journal.specs.Example.{up_from, WritesTwo};
+ghost use Rattle.std.specs.List.{range_with_len};
+ghost use Rattle.undo_journal.specs.Example.{WritesTwo};
 
 use super::*;
 use chip_port::{Bench, Chip, Failed, MemChip, Tear};
@@ -17,7 +18,7 @@ const FIRST: u8 = 0x11;
 const LAST: u8 = 0x22;
 
 fn all_blocks(alloc: Global) -> Result<Row<u16>, &'static str>
-    ensures { IfOk result (λ blocks. blocks ≡ up_from 0 673) }
+    ensures { IfOk result (λ blocks. blocks ≡ range_with_len 0 673) }
 {
     let mut blocks = Row::new(alloc);
     for block in 0..673 {
@@ -66,7 +67,7 @@ fn unit<C: Chip>(
     first: &[u8; 256],
     last: &[u8; 256],
 ) -> Result<(), Failed>
-    requires blocks { blocks ≡ up_from 0 673 }
+    requires blocks { blocks ≡ range_with_len 0 673 }
     requires calls { 682 ≤ (C.sees chip.old).spare.calls }
     requires octets { 174150 ≤ (C.sees chip.old).spare.octets }
     requires idle { IfTold (C.sees chip.old) (IsIdle (C.sees chip.old)) }

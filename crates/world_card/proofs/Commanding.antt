@@ -16,13 +16,13 @@ use Rattle.small_card.specs.declared.types.Command.{Command}
 use Rattle.package_codec.specs.Replies.{unit_of, after}
 use Rattle.package_codec.proofs.InRange.{reads_in_range}
 use Rattle.package_codec.proofs.Replying.{unit_may}
-use Rattle.card_store.specs.Holding.{Mark, Holds, StandsAt, standing}
+use Rattle.card_store.specs.Holding.{Mark, Holds, StandsAt, standing, tried}
 use Rattle.card_store.proofs.Holding.{loss_held}
 use Rattle.euicc_core.specs.Answers.{Answers}
 use Rattle.euicc_core.specs.Steps.{Steps, ChipSteps}
 use Rattle.euicc_core.specs.declared.ends.StepEnd.TheVariants.{Answered, Lost, NoMemory}
 use Rattle.euicc_core.proofs.Kept.{step_held}
-use Rattle.small_world.specs.Stepping.{attempt, tried, commanded, answered_step, lost_step}
+use Rattle.small_world.specs.Stepping.{attempt, commanded, answered_step, lost_step}
 use Rattle.small_world.specs.Stretches.{is_far}
 use Rattle.small_world.specs.Worlds.{SmallWorld, Plan}
 use Rattle.small_world.proofs.HasLemmas.{if_some}

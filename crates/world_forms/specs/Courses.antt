@@ -1,5 +1,5 @@
 -- The lines of a schedule, the run of the small world that they make, and its trace.
-use Rattle.std.specs.Prelude.{◌≡◌, true, false, List, [], ℕ, ◌∷◌, length, map, Some}
+use Rattle.std.specs.Prelude.{◌≡◌, true, List, [], ℕ, ◌∷◌, length, map, Some}
 use Rattle.iot_schedule.specs.Devices.{device_at}
 use Rattle.iot_schedule.specs.Steps.{step_at}
 use Rattle.iot_schedule.specs.declared.types.Device.{Device}
@@ -9,7 +9,7 @@ use Rattle.modem_bank.specs.Modems.{Seen as ModemSeen}
 use Rattle.small_card.specs.Legal.{IsLegal, IsOnce}
 use Rattle.small_world.specs.Lossless.{NoneLost, Made}
 use Rattle.small_world.specs.Printing.{device_printed}
-use Rattle.small_world.specs.Runs.{IsRunOver, Turn, world_after}
+use Rattle.small_world.specs.Runs.{IsRunOver, Turn, kept_on, world_after}
 use Rattle.small_world.specs.Worlds.{SmallWorld, start_world}
 
 -- These texts spell a device, and behind it these lines, in their order.
@@ -50,10 +50,6 @@ start_of {handed_in} r = start_world r.device handed_in
 abbrev pub turns_of : {handed_in : List ModemSeen} {ls : List (List ℕ)} {text : List ℕ} → HasRun handed_in ls text → List Turn
 turns_of r = r.run.turns
 
--- A line of which nothing is lost, and at which no boot takes anything.
-abbrev pub plainly : Line → Turn
-plainly l = record { line = l; lost = false; taken = false }
-
 -- Before each of these turns the card is lit.
 abbrev pub AreLit : SmallWorld → List Turn → Type 0
 AreLit start [] = Unit {0}
@@ -61,5 +57,5 @@ AreLit start (t ∷ ts) = ((world_after start ts).lit ≡ true) × AreLit start 
 
 -- A run without losses: its lines alone make it, and none prints `off`.
 pub record IsCalm (start : SmallWorld) (turns : List Turn) : Type 0 where
-  pub plain : turns ≡ map plainly (map (λ t. t.line) turns)
+  pub plain : turns ≡ map kept_on (map (λ t. t.line) turns)
   pub lit : AreLit start turns

@@ -4,7 +4,8 @@ use Rattle.std.specs.Fmt.{decimal}
 use Rattle.chip_port.specs.Rules.{IfTold}
 use Rattle.chip_port.specs.Seen.{Seen}
 use Rattle.iot_schedule.specs.Making.{made_line}
-use Rattle.line_loop.specs.Sends.{Closes, stop_line}
+use Rattle.run_loop.specs.Sends.{Closes}
+use Rattle.line_loop.specs.Sends.{stop_line}
 use Rattle.line_loop.specs.Status.{exit_status, has_stop_line, line_status}
 use Rattle.line_loop.specs.declared.halt.Halt.{Halt}
 use Rattle.line_loop.specs.declared.halt.Halt.TheVariants.{Reading, Handling}

@@ -1,8 +1,8 @@
 //! The form `demo`: a generated schedule is replayed, and one line tells what became of it.
 
-ghost use Rattle.std.specs.Prelude.{◌≡◌, ◌≢◌, ◌^◌, ◌<◌, ◌≤◌, true, List, ℕ, map, IfOk, Err};
+ghost use Rattle.std.specs.Prelude.{◌≡◌, ◌≢◌, ◌^◌, ◌<◌, ◌≤◌, map, Err};
 ghost use Rattle.iot_bytes.specs.Causes.{Rose};
-ghost use Rattle.line_loop.specs.Sends.{Closes};
+ghost use Rattle.run_loop.specs.Sends.{Closes};
 ghost use Rattle.modem_bank.specs.Modems.{Seen};
 ghost use Rattle.modem_bank.specs.Telling.{TellsOne};
 ghost use Rattle.world_text.specs.Putting.{PutsOne};
@@ -12,8 +12,8 @@ use crate::playing::{Stopped, play_lines};
 use crate::tally::Tally;
 use chip_port::Bench;
 use iot_bytes::{NoMemory, Row, Sink};
-use line_loop::{Halt, NoLine, RunEnd, send_last, send_stopped};
-use run_loop::SendStop;
+use line_loop::{Halt, NoLine, RunEnd, send_stop_line};
+use run_loop::{SendStop, send_last};
 use sgp_values::Iccid;
 use std::alloc::Global;
 
@@ -43,14 +43,7 @@ fn close<K: Sink>(
             Ok(text) => send_last(text.as_slice(), sink),
             Err(NoMemory) => Err(SendStop::NoMemory),
         },
-        Err(at) => {
-            let halt = Halt::Handling(at.stop);
-            if halt.has_stop_line() {
-                send_stopped(alloc, halt.status(), u64::from(at.number), sink)
-            } else {
-                Ok(())
-            }
-        }
+        Err(at) => send_stop_line(alloc, Halt::Handling(at.stop), u64::from(at.number), sink),
     }
 }
 

@@ -2,7 +2,6 @@
 
 ghost use Rattle.std.specs.Prelude.{◌≡◌, ◌≢◌, ◌+◌, ◌^◌, ◌<◌, ◌≤◌, ℕ, map, IfErr, IfOk, OnErr};
 ghost use Rattle.std.specs.Prelude.{OnOk, Err, List};
-ghost use Rattle.card_store.specs.Looking.{HasCauseOf};
 ghost use Rattle.chip_port.specs.Rules.{IfTold};
 ghost use Rattle.euicc_core.specs.Steps.{IsLitOn};
 ghost use Rattle.iot_bytes.specs.Causes.{Rose};

@@ -1,6 +1,6 @@
 //! What replays the lines of a schedule.
 
-ghost use Rattle.std.specs.Prelude.{◌≡◌, ◌++◌, ◌∷◌, [], ℕ, List, map, Some, None};
+ghost use Rattle.std.specs.Prelude.{◌≡◌, ◌++◌, ◌∷◌, [], ℕ, map, Some, None};
 ghost use Rattle.std.specs.Prelude.{Ok, Err, IfOk, OnOk, OnErr};
 ghost use Rattle.card_store.specs.Looking.{HasCauseOf};
 ghost use Rattle.chip_port.specs.Rules.{IfTold};

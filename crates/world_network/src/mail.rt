@@ -1,6 +1,6 @@
 //! All messages ever sent, as octets, each with the eIM that it goes to or comes from.
 ghost use Rattle.std.specs.Prelude.{◌≡◌, ◌≤◌, ◌<◌, ◌+◌, ◌++◌, [], ◌∷◌, ◌↔◌, IsTrue, IsErrOf, OnOk};
-ghost use Rattle.std.specs.Prelude.{OnErr, IfOk, length, List, Some, None, IfSome, option_copied};
+ghost use Rattle.std.specs.Prelude.{OnErr, IfOk, Some, None, IfSome, option_copied};
 ghost use Rattle.small_card.specs.Lists.{Every};
 ghost use Rattle.esipa_codec.specs.Ranges.{IsToEim, IsToIpa};
 ghost use Rattle.esipa_codec.specs.Spelling.{to_eim, to_ipa};

@@ -1,6 +1,6 @@
-ghost use Rattle.std.specs.Prelude.{◌≡◌, ◌≢◌, ◌≤◌, ◌<◌, ◌↔◌, not, true, false, List, Some, None};
+ghost use Rattle.std.specs.Prelude.{◌≡◌, ◌≢◌, ◌≤◌, ◌<◌, not, true, false, List, Some, None};
 ghost use Rattle.std.specs.Prelude.{length};
-ghost use Rattle.std.specs.Prelude.{IfOk, IfErr, IfSome, OnOk, OnErr, IsErrOf};
+ghost use Rattle.std.specs.Prelude.{IfOk, IfSome, OnOk, OnErr, IsErrOf};
 ghost use Rattle.std.specs.Prelude.{option_copied, option_map};
 ghost use Rattle.esipa_codec.specs.Assistant.{act_of, poll, probe, push, strikes};
 ghost use Rattle.esipa_codec.specs.Eims.{bind_end, order_end, skip_end};

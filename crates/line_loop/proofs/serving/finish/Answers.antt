@@ -14,5 +14,5 @@ returns-in-Ok g c = λ bench modems first start rest reads h.
 
 pub returns : goal.returns
 returns g c = λ bench modems first start rest reads h.
-    let close = c.close-closing.ensures in
-    unfinished _ _ _ _ _ _ _ _ _ _ c.args.number c.in-Err.stop c.close-closing.result h (c.in-Err.ensures bench modems first) close.closes close.monotone close.fault
+    let close = c.send_stop_line-closing.ensures in
+    unfinished _ _ _ _ _ _ _ _ _ _ c.args.number c.in-Err.stop c.send_stop_line-closing.result h (c.in-Err.ensures bench modems first) close.closes close.monotone close.fault

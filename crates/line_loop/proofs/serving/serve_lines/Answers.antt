@@ -14,5 +14,5 @@ returns-then-is_end g c =
 pub returns : goal.returns
 returns g c =
     let not_end : c.handle-last.result.halt ≢ Reading reading.End = λ at. let both = sym c.if-is_end.false ∙ c.is_end.ensures ∙ ap is_end at in absurd cc in
-    let close = c.close-closing.ensures in
-    stopped_early _ _ _ _ _ _ _ _ _ _ c.handle-last.result.number c.handle-last.result.halt c.close-closing.result not_end c.handle-last.ensures close.closes close.monotone close.fault
+    let close = c.send_stop_line-closing.ensures in
+    stopped_early _ _ _ _ _ _ _ _ _ _ c.handle-last.result.number c.handle-last.result.halt c.send_stop_line-closing.result not_end c.handle-last.ensures close.closes close.monotone close.fault

@@ -22,17 +22,17 @@ returns-in_err-reply-clause-turned g c = λ first start count few p.
     let read = c.in_ok-frame.ensures in
     rw (e.1, e.2) (answer_no_more _ _ _ _ _ _ count c.in_ok-frame.frame c.in_err-reply.field-0.0 few p ((rw c.as_slice.ensures at c.in_err-reply.ensures.replies) first) (read.next count) refl read.monotone (omega arith))
 
-pub returns-in_err-send_frame-clause-turned : goal.returns-in_err-send_frame-clause-turned
-returns-in_err-send_frame-clause-turned g c = λ first start count few p.
-    let e = err_from_is_err_and c.from_residual-in_err-send_frame.result c.from_residual-in_err-send_frame.ensures.1 in
+pub returns-in_err-send_octets-clause-turned : goal.returns-in_err-send_octets-clause-turned
+returns-in_err-send_octets-clause-turned g c = λ first start count few p.
+    let e = err_from_is_err_and c.from_residual-in_err-send_octets.result c.from_residual-in_err-send_octets.ensures.1 in
     let read = c.in_ok-frame.ensures in
     let replied = rw c.as_slice.ensures at c.in_ok-reply.ensures.replies in
-    let send = c.in_err-send_frame.ensures in
-    rw (e.1, e.2) (cut_short _ _ _ _ _ _ count c.in_ok-frame.frame replied.content few p (replied.stands first) (read.next count) (send.sent replied.content (c.as_slice-2.ensures ∙ replied.framed)) read.monotone send.monotone send.fault)
+    let send = c.in_err-send_octets.ensures in
+    rw (e.1, e.2) (cut_short _ _ _ _ _ _ count c.in_ok-frame.frame replied.content few p (replied.stands first) (read.next count) (rw (c.as_slice-2.ensures ∙ replied.framed) at send.sent) read.monotone send.monotone send.fault)
 
 pub returns-clause-turned : goal.returns-clause-turned
 returns-clause-turned g c = λ first start count few p.
     let read = c.in_ok-frame.ensures in
     let replied = rw c.as_slice.ensures at c.in_ok-reply.ensures.replies in
-    let send = c.in_ok-send_frame.ensures in
-    answered _ _ _ _ _ count c.in_ok-frame.frame replied.content p (replied.stands first) (read.next count) (send.sent replied.content (c.as_slice-2.ensures ∙ replied.framed)) read.monotone send.monotone
+    let send = c.in_ok-send_octets.ensures in
+    answered _ _ _ _ _ count c.in_ok-frame.frame replied.content p (replied.stands first) (read.next count) (rw (c.as_slice-2.ensures ∙ replied.framed) at send.sent) read.monotone send.monotone

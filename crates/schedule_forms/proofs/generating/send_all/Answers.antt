@@ -1,5 +1,5 @@
 use Rattle.std.proofs.Common.{Ok, Err}
-use Rattle.line_loop.proofs.Going.{sent_by}
+use Rattle.run_loop.proofs.Going.{sent_by}
 use Rattle.schedule_forms.proofs.Piecing.{flushed_ok, flushed_into}
 use Rattle.schedule_forms.proofs.generating.send_all.Goals as goal
 

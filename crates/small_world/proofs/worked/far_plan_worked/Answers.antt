@@ -1,6 +1,7 @@
 use Rattle.chip_port.specs.declared.chip.Tear.TheVariants as tear
 use Rattle.iot_schedule.specs.declared.types.Line.TheVariants as line
-use Rattle.small_world.specs.Examples.{dark_device, ready, kept_on, ordered_down, enable_home, goes_down}
+use Rattle.small_world.specs.Runs.{kept_on}
+use Rattle.small_world.specs.Examples.{dark_device, ready, ordered_down, enable_home, goes_down}
 use Rattle.small_world.proofs.Playing.{may_play, plays}
 use Rattle.std.proofs.Common.{refl, ◌∷◌, ◌++◌, []}
 use Rattle.small_world.proofs.Computing.{computing_world}

@@ -1,5 +1,6 @@
 use Rattle.iot_schedule.specs.declared.types.Line.TheVariants as line
-use Rattle.small_world.specs.Examples.{dark_device, ready, kept_on, taking_boot, goes_down, torn_load}
+use Rattle.small_world.specs.Runs.{kept_on}
+use Rattle.small_world.specs.Examples.{dark_device, ready, taking_boot, goes_down, torn_load}
 use Rattle.small_world.proofs.Playing.{may_play, plays}
 use Rattle.std.proofs.Common.{refl, ◌∷◌, ◌++◌, []}
 use Rattle.small_world.proofs.Computing.{computing_world}

@@ -8,7 +8,8 @@ use Rattle.undo_journal.specs.Home.{home, home_in}
 use Rattle.undo_journal.specs.States.{Has, IsIdle}
 use Rattle.undo_journal.specs.Example.{with_two}
 use Rattle.undo_journal.proofs.Idle.{idle_home}
-use Rattle.undo_journal.proofs.Counting.{all_have, length-up_from}
+use Rattle.std.proofs.lemmas.List.FromFn.{length-range_with_len}
+use Rattle.undo_journal.proofs.Counting.{all_have}
 use Rattle.undo_journal.proofs.tests.unit.Goals as goal
 
 -- the home before, or the one with both blocks
@@ -33,7 +34,7 @@ write_home-requires-2-clause-kept g c =
 pub returns-in_err-recorded-clause-told : goal.returns-in_err-recorded-clause-told
 returns-in_err-recorded-clause-told g c = λ told.
     let s0 = g.C.Chip.sees c.args.chip.now in
-    let len = ap length c.requires.blocks ∙ length-up_from 0 673 in
+    let len = ap length c.requires.blocks ∙ length-range_with_len 0 673 in
     let k = c.in_err-recorded.ensures.told told in
     let run = ran_then {ok = false} (start c.args.first.now c.args.last.now s0 told (c.requires.idle told)) k.ran (λ i e. inl e) in
     rw (not_ok _ c.from_residual.ensures.0) (record { ran = ran_most (omega (arith, len)) run; idle = failed; home_now = failed })
@@ -43,7 +44,7 @@ returns-in_err-opened-clause-told g c = λ told.
     let s0 = g.C.Chip.sees c.args.chip.now in
     let idle = c.requires.idle told in
     let was = idle_home s0 idle in
-    let len = ap length c.requires.blocks ∙ length-up_from 0 673 in
+    let len = ap length c.requires.blocks ∙ length-range_with_len 0 673 in
     let k = c.in_ok-recorded.ensures.told told in
     let kept = ran_then {ok = true} (start c.args.first.now c.args.last.now s0 told idle) k.ran (λ i e. inl e) in
     let o = (rw c.in_ok-recorded.ensures.same at (c.in_err-opened.ensures.told kept.told)) (home_in s0.reads) (k.recorded refl) in
@@ -56,7 +57,7 @@ returns-in_err-write_home-clause-told g c = λ told.
     let H = home_in s0.reads in
     let idle = c.requires.idle told in
     let was = idle_home s0 idle in
-    let len = ap length c.requires.blocks ∙ length-up_from 0 673 in
+    let len = ap length c.requires.blocks ∙ length-range_with_len 0 673 in
     let k = c.in_ok-recorded.ensures.told told in
     let kept = ran_then {ok = true} (start c.args.first.now c.args.last.now s0 told idle) k.ran (λ i e. inl e) in
     let o = (rw c.in_ok-recorded.ensures.same at (c.in_ok-opened.ensures.told kept.told)) H (k.recorded refl) in
@@ -72,7 +73,7 @@ returns-in_err-write_home-2-clause-told g c = λ told.
     let H = home_in s0.reads in
     let idle = c.requires.idle told in
     let was = idle_home s0 idle in
-    let len = ap length c.requires.blocks ∙ length-up_from 0 673 in
+    let len = ap length c.requires.blocks ∙ length-range_with_len 0 673 in
     let k = c.in_ok-recorded.ensures.told told in
     let kept = ran_then {ok = true} (start c.args.first.now c.args.last.now s0 told idle) k.ran (λ i e. inl e) in
     let o = (rw c.in_ok-recorded.ensures.same at (c.in_ok-opened.ensures.told kept.told)) H (k.recorded refl) in
@@ -92,7 +93,7 @@ returns-clause-told g c = λ told.
     let last = c.args.last.now in
     let idle = c.requires.idle told in
     let was = idle_home s0 idle in
-    let len = ap length c.requires.blocks ∙ length-up_from 0 673 in
+    let len = ap length c.requires.blocks ∙ length-range_with_len 0 673 in
     let k = c.in_ok-recorded.ensures.told told in
     let kept = ran_then {ok = true} (start first last s0 told idle) k.ran (λ i e. inl e) in
     let o = (rw c.in_ok-recorded.ensures.same at (c.in_ok-opened.ensures.told kept.told)) H (k.recorded refl) in
