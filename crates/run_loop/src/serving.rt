@@ -1,6 +1,6 @@
 //! The loop: a frame is read, answered and sent before the next one is read.
 
-ghost use Rattle.std.specs.Prelude.{◌≡◌, ℕ, ◌<◌, List, Option, IfOk, IfErr, OnOk};
+ghost use Rattle.std.specs.Prelude.{◌≡◌, ℕ, ◌<◌, List, Option, IfErr, OnOk};
 ghost use Rattle.run_loop.specs.Edges.{Edge, edge};
 ghost use Rattle.run_loop.specs.Parts.{Replies};
 ghost use Rattle.run_loop.specs.Runs.{Progress, Turned, Halted, Ended, IsUnopened};
@@ -20,15 +20,15 @@ struct Last {
     number: u64,
 }
 
-// A row with the place of a frame's length. It is taken before the frame is read, so that a frame
-// that was read is handed to the part.
-fn empty_answer(alloc: Global) -> Result<Row<u8>, ReadStop>
-    ensures begun { IfOk result (λ out. out ≡ blank_head) }
+// Empties the row for the next answer, but for the place of a frame's length. Its memory is taken
+// before the frame is read, so that a frame that was read is handed to the part.
+fn begin_answer(out: &mut Row<u8>) -> Result<(), ReadStop>
+    ensures begun { OnOk result (out.new ≡ blank_head) }
     ensures memory { IfErr result (λ stop. stop ≡ ReadStop.NoMemory) }
 {
-    let mut out = Row::new(alloc);
-    match begin_frame(&mut out) {
-        Ok(()) => Ok(out),
+    out.cut(0);
+    match begin_frame(out) {
+        Ok(()) => Ok(()),
         Err(NoMemory) => Err(ReadStop::NoMemory),
     }
 }
@@ -52,13 +52,14 @@ fn reply<W, P: Part<W>>(
     Ok(())
 }
 
-// Reads a frame, has it answered and sends the answer.
+// Reads a frame, has it answered and sends the answer, which takes the place of what the row has.
 fn turn<W, P: Part<W>, S: Source, K: Sink>(
     alloc: Global,
     part: &mut P,
     outside: &mut W,
     source: &mut S,
     sink: &mut K,
+    out: &mut Row<u8>,
 ) -> Result<(), Halt>
     requires { P.ready (part.old, outside.old) }
     ensures turned { (first : P × W) (start : Edge) (count : ℕ) → count < MOST_FRAMES
@@ -71,14 +72,14 @@ fn turn<W, P: Part<W>, S: Source, K: Sink>(
         count result }
     ensures ready { OnOk result (P.ready (part.new, outside.new)) }
 {
-    let mut out = empty_answer(alloc)?;
+    begin_answer(out)?;
     let frame = next_frame(alloc, source)?;
-    reply(alloc, part, outside, frame.as_slice(), &mut out)?;
+    reply(alloc, part, outside, frame.as_slice(), out)?;
     send_octets(out.as_slice(), sink)?;
     Ok(())
 }
 
-// Answers the frames, until something ends the run.
+// Answers the frames, until something ends the run. Their answers share the memory of one row.
 fn handle<W, P: Part<W>, S: Source, K: Sink>(
     alloc: Global,
     part: &mut P,
@@ -93,8 +94,9 @@ fn handle<W, P: Part<W>, S: Source, K: Sink>(
         (edge (S.rest source.new) (S.faults source.new) (K.sent sink.new) (K.faults sink.new))
         result.number result.halt }
 {
+    let mut out = Row::new(alloc);
     for handled in 0..MOST_FRAMES {
-        match turn(alloc, part, outside, source, sink) {
+        match turn(alloc, part, outside, source, sink, &mut out) {
             Ok(()) => {}
             Err(halt) => {
                 let number = u64::from(handled) + 1;

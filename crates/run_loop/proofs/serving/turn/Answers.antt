@@ -5,10 +5,10 @@ use Rattle.run_loop.specs.declared.halt.ReadStop.TheVariants.{NoMemory}
 use Rattle.run_loop.proofs.Ending.{answered, read_no_more, answer_no_more, cut_short, nothing_taken}
 use Rattle.run_loop.proofs.serving.turn.Goals as goal
 
-pub returns-in_err-out-clause-turned : goal.returns-in_err-out-clause-turned
-returns-in_err-out-clause-turned g c = λ first start count few p.
+pub returns-in_err-begin_answer-clause-turned : goal.returns-in_err-begin_answer-clause-turned
+returns-in_err-begin_answer-clause-turned g c = λ first start count few p.
     let e = err_from_is_err_and c.from_residual.result c.from_residual.ensures.1 in
-    rw (e.1, e.2, c.in_err-out.ensures.memory) (read_no_more _ _ _ _ _ count NoMemory (omega (arith, few)) p (λ octets is. nothing_taken octets _ is) refl (omega arith) (omega arith) (λ no. absurd cc))
+    rw (e.1, e.2, c.in_err-begin_answer.ensures.memory) (read_no_more _ _ _ _ _ count NoMemory (omega (arith, few)) p (λ octets is. nothing_taken octets _ is) refl (omega arith) (omega arith) (λ no. absurd cc))
 
 pub returns-in_err-frame-clause-turned : goal.returns-in_err-frame-clause-turned
 returns-in_err-frame-clause-turned g c = λ first start count few p.
