@@ -1,5 +1,5 @@
 -- What a card stands for after it answered a frame, or stopped at it, and what its chip holds.
-use Rattle.std.specs.Prelude.{option_map}
+use Rattle.std.specs.Prelude.{option_map, IfOk, OnOk}
 use Rattle.std.proofs.Common.{◌≡◌, ◌∙◌, ap, sym, subst, inl, inr, ℕ, ◌+◌, ◌*◌, true, false, Bool, List, [], ◌∷◌, ◌++◌, length, length-append, Option, Some, None, Result, Ok, Err, arith}
 use Rattle.iot_bytes.specs.Frames.{frame}
 use Rattle.chip_port.specs.Seen.{Seen, Tally}
@@ -8,18 +8,23 @@ use Rattle.chip_port.specs.Runs.{Went}
 use Rattle.chip_port.proofs.Runs.{went_then}
 use Rattle.small_card.specs.Cards.{FullCard}
 use Rattle.small_card.specs.Histories.{History}
+use Rattle.small_card.specs.Ranges.{IsAnswer}
 use Rattle.small_card.specs.declared.types.Answer.{Answer}
 use Rattle.small_card.specs.declared.types.Answer.TheVariants.{Personalised}
+use Rattle.small_card.specs.declared.types.Command.{Command}
 use Rattle.es10_codec.specs.Reading.{command_at}
 use Rattle.es10_codec.specs.Spelling.{answer}
+use Rattle.es10_codec.proofs.AnswerCodec.{answer_few}
 use Rattle.card_store.specs.Holding.{Mark}
 use Rattle.card_store.specs.Looking.{HasCauseOf}
+use Rattle.euicc_core.specs.Steps.{IsLitOn}
+use Rattle.run_loop.specs.Parts.{Answers}
 use Rattle.run_loop.specs.declared.halt.PartStop.{PartStop}
 use Rattle.run_loop.specs.declared.halt.PartStop.TheVariants.{ChipFault, Malformed, Unrecognised, NoMemory}
 use Rattle.lone_card.specs.Cards.{reply_to, after_frame, history_of, sent_for, output}
 use Rattle.lone_card.specs.Marks.{unit_in, opened, marks_after, marks_of}
-use Rattle.lone_card.specs.Answering.{StandsFor, Replied, IsBegun, BegunBy}
-use Rattle.lone_card.specs.Benches.{Rests, GoesOn, BreaksOff, Works, Makes}
+use Rattle.lone_card.specs.Answering.{StandsFor, Replied, IsBegun, BegunBy, Puts}
+use Rattle.lone_card.specs.Benches.{Rests, GoesOn, BreaksOff, Works, Makes, IsReady}
 use Rattle.lone_card.specs.Walks.{IsLater, ChipLed, LedTo, ChipBroke, ChipRests, ChipStopped, StoppedAt}
 use Rattle.lone_card.specs.Starting.{stands_rightful}
 use Rattle.lone_card.proofs.Histories.{history_of-push, output-push, begins-push}
@@ -30,6 +35,22 @@ pub reply_begun : (held : Option FullCard) (o : Option History) (f : List ℕ) �
 unfolding reply_to after_frame
 reply_begun held (Some h) f s begun = absurd s
 reply_begun held None f s begun = (ap (λ (x : Option History). option_map (λ h. Personalised) x) begun.starts, subst (StandsFor (Some held)) (sym begun.starts) (begun.holds, begun.legal))
+
+-- such a card can answer the next frame
+pub begun_ready : {T E : Type 0} (result : Result T E) (held : Option FullCard) (c : Option Command) (s : Seen) → IsBegun c held → IfTold s (IsLitOn held s) → OnOk result (IsReady (Some held) s)
+begun_ready (Ok done) held c s begun lit = record { there = (Some begun.history, (begun.holds, begun.legal)); settled = lit }
+begun_ready (Err error) held c s begun lit = tt
+
+-- why a call failed is why it has no reply, and a reply needs no cause
+pub cause_of_none : {T : Type 0} (fault reason : PartStop) (s t : Seen) → HasCauseOf {T = T} fault s t (Err reason) → HasCauseOf {T = Answer} fault s t (Err reason)
+cause_of_none {T} fault reason s t h = record {
+  told = h.told;
+  monotone = h.monotone;
+  cause = λ is. let same : reason ≡ fault = cc in h.cause (ap (λ (x : PartStop). Err x) same);
+}
+
+pub cause_of_reply : {T : Type 0} (fault : PartStop) (s t : Seen) (made : T) (a : Answer) → HasCauseOf fault s t (Ok made) → HasCauseOf fault s t (Ok a)
+cause_of_reply fault s t made a h = record { told = h.told; monotone = h.monotone; cause = λ is. absurd cc }
 
 -- the first frame made none
 pub not_begun : (o : Option History) (f : List ℕ) (stop : PartStop) (now : Option (Option FullCard)) → StandsFor None o → BegunBy (command_at f) (Err stop) → Replied o f now (Err stop)
@@ -150,3 +171,20 @@ unwritten first now now' s t u f a did cause works fs text led = λ start at.
       cause = λ is. absurd cc;
       chip = λ told. inr (chip_more start fs f s t u (was.chip told) (works (was.later.told ∙ told) o was.stands));
     }
+
+-- what came of a frame, once its reply was put behind what stood there
+pub put_answers : {P : Type 0} (card : P → Option (Option FullCard)) (chip : P → Seen) (old new : P) (f out out' : List ℕ) (reply : Result Answer PartStop) (result : Result (Unit {0}) PartStop)
+    → ((o : Option History) → StandsFor (card old) o → Replied o f (card new) reply) → HasCauseOf ChipFault (chip old) (chip new) reply
+    → IfTold (chip old) ((o : Option History) → StandsFor (card old) o → Works o f reply (chip old) (chip new)) → IfOk reply IsAnswer → Puts reply out out' result
+    → Answers (λ first now fs text. LedTo (card first) (chip first) (card now) (chip now) fs text) (λ first now fs text g stop. StoppedAt (card first) (chip first) (chip now) fs text g stop) old new f out out' result
+put_answers card chip old new f out out' (Ok a) (Ok done) did cause works range put = record {
+  content = answer a;
+  appended = put;
+  short = omega (arith, answer_few a range);
+  stands = λ first fs text led. answered (card first) (card old) (card new) _ _ _ f a did cause works fs text led;
+}
+put_answers card chip old new f out out' (Ok a) (Err stop) did cause works range put = λ first fs text led.
+    subst (λ s. StoppedAt (card first) (chip first) (chip new) fs text f s) (sym put) (unwritten (card first) (card old) (card new) _ _ _ f a did cause works fs text led)
+put_answers card chip old new f out out' (Err reason) (Ok done) did cause works range put = absurd put
+put_answers card chip old new f out out' (Err reason) (Err stop) did cause works range put = λ first fs text led.
+    subst (λ s. StoppedAt (card first) (chip first) (chip new) fs text f s) (sym put) (stopped (card first) (card old) (card new) _ _ _ f reason did cause works fs text led)

@@ -1,10 +1,11 @@
 -- What a card that answers frames stands for.
-use Rattle.std.specs.Prelude.{◌≡◌, ℕ, List, Option, Some, None, Result, Ok, Err}
+use Rattle.std.specs.Prelude.{◌≡◌, ℕ, List, ◌++◌, Option, Some, None, Result, Ok, Err}
 use Rattle.small_card.specs.Cards.{FullCard}
 use Rattle.small_card.specs.Histories.{History, full_of}
 use Rattle.small_card.specs.Legal.{IsLegal}
 use Rattle.small_card.specs.declared.types.Answer.{Answer}
 use Rattle.small_card.specs.declared.types.Command.{Command}
+use Rattle.es10_codec.specs.Spelling.{answer}
 use Rattle.euicc_core.specs.declared.ends.StepEnd.{StepEnd}
 use Rattle.euicc_core.specs.declared.ends.StepEnd.TheVariants as step
 use Rattle.run_loop.specs.declared.halt.PartStop.{PartStop}
@@ -58,3 +59,10 @@ of_step (step.Answered a) = Ok a
 of_step step.Lost = Err ChipFault
 of_step step.Dark = Err ChipFault
 of_step step.NoMemory = Err NoMemory
+
+-- The octets of this answer, or of none for this reason, were appended; or memory was wanting for them.
+abbrev pub Puts : Result Answer PartStop → List ℕ → List ℕ → Result (Unit {0}) PartStop → Type 0
+Puts (Ok a) out out' (Ok done) = out' ≡ out ++ answer a
+Puts (Ok a) out out' (Err stop) = stop ≡ NoMemory
+Puts (Err reason) out out' (Ok done) = ⊥
+Puts (Err reason) out out' (Err stop) = stop ≡ reason

@@ -1,6 +1,6 @@
 //! The card as a part of a run: what stands on its chip, or none until its first frame makes one.
 
-ghost use Rattle.std.specs.Prelude.{◌≡◌, Option, Some, None, IfOk, OnOk};
+ghost use Rattle.std.specs.Prelude.{◌≡◌, Option, Some, None, Ok, IfOk};
 ghost use Rattle.chip_port.specs.Rules.{IfTold};
 ghost use Rattle.small_card.specs.Histories.{History};
 ghost use Rattle.small_card.specs.Ranges.{IsAnswer, IsCommand};
@@ -8,8 +8,8 @@ ghost use Rattle.small_card.specs.declared.types.Command.TheVariants as command;
 ghost use Rattle.card_store.specs.Looking.{HasCauseOf};
 ghost use Rattle.euicc_core.specs.Steps.{IsLitOn};
 ghost use Rattle.es10_codec.specs.Reading.{command_at};
-ghost use Rattle.lone_card.specs.Answering.{StandsFor, Replied, BegunBy, of_step};
-ghost use Rattle.lone_card.specs.Benches.{IsLitPart, IsReady, Works, Makes};
+ghost use Rattle.lone_card.specs.Answering.{StandsFor, Replied, BegunBy, of_step, Puts};
+ghost use Rattle.lone_card.specs.Benches.{IsReady, Works, Makes};
 
 use chip_port::Chip;
 use es10_codec::{read_command, write_answer};
@@ -112,66 +112,46 @@ fn begin_by_frame<C: Chip>(
     }
 }
 
-// The answer of a step, or why it has none.
-fn answer_of(end: StepEnd) -> Result<Answer, PartStop>
-    ensures { result ≡ of_step end }
-{
-    match end {
-        StepEnd::Answered(answer) => Ok(answer),
-        StepEnd::Lost | StepEnd::Dark => Err(PartStop::ChipFault),
-        StepEnd::NoMemory => Err(PartStop::NoMemory),
-    }
-}
-
-// The reply of a card that is there: to a command, or that the frame is none.
-fn reply_of<C: Chip>(
-    alloc: Global,
-    card: &mut EuiccCard,
-    chip: &mut C,
-    octets: &[u8],
-) -> Result<Answer, PartStop>
+// How a step ends with the frame of a card that is there. A frame that is no command is answered and
+// changes nothing.
+fn step<C: Chip>(alloc: Global, card: &mut EuiccCard, chip: &mut C, octets: &[u8]) -> StepEnd
     requires { IsReady (Some card.old) (C.sees chip.old) }
-    ensures cause { HasCauseOf PartStop.ChipFault (C.sees chip.old) (C.sees chip.new) result }
+    ensures cause { HasCauseOf PartStop.ChipFault (C.sees chip.old) (C.sees chip.new)
+        (of_step result) }
     ensures replied { (o : Option History) → StandsFor (Some card.old) o
-        → Replied o octets.now (Some card.new) result }
-    ensures range { IfOk result IsAnswer }
+        → Replied o octets.now (Some card.new) (of_step result) }
+    ensures range { IfOk (of_step result) IsAnswer }
     ensures settled { IfTold (C.sees chip.new) (IsLitOn card.new (C.sees chip.new)) }
     ensures chip { IfTold (C.sees chip.old) ((o : Option History) → StandsFor (Some card.old) o
-        → Works o octets.now result (C.sees chip.old) (C.sees chip.new)) }
+        → Works o octets.now (of_step result) (C.sees chip.old) (C.sees chip.new)) }
 {
     match read_command(alloc, octets) {
-        Ok(command) => answer_of(card.step(alloc, chip, &command)),
-        Err(ReadError::Malformed) => Ok(Answer::Malformed),
-        Err(ReadError::NoMemory) => Err(PartStop::NoMemory),
+        Ok(command) => card.step(alloc, chip, &command),
+        Err(ReadError::Malformed) => StepEnd::Answered(Answer::Malformed),
+        Err(ReadError::NoMemory) => StepEnd::NoMemory,
     }
 }
 
-// The reply to a frame, or why it has none. A first one makes the card.
-fn reply<C: Chip>(
-    alloc: Global,
-    card: &mut Option<EuiccCard>,
-    chip: &mut C,
-    octets: &[u8],
-) -> Result<Answer, PartStop>
-    requires { IsReady card.old (C.sees chip.old) }
-    ensures cause { HasCauseOf PartStop.ChipFault (C.sees chip.old) (C.sees chip.new) result }
-    ensures replied { (o : Option History) → StandsFor card.old o
-        → Replied o octets.now card.new result }
-    ensures range { IfOk result IsAnswer }
-    ensures settled { OnOk result
-        (IfTold (C.sees chip.new) (IsLitPart card.new (C.sees chip.new))) }
-    ensures chip { IfTold (C.sees chip.old) ((o : Option History) → StandsFor card.old o
-        → Works o octets.now result (C.sees chip.old) (C.sees chip.new)) }
+// Appends an answer.
+fn put(answer: &Answer, out: &mut Row<u8>) -> Result<(), PartStop>
+    requires { IsAnswer answer.now }
+    ensures { Puts (Ok answer.now) out.old out.new result }
 {
-    match card {
-        Some(held) => reply_of(alloc, held, chip, octets),
-        None => match begin_by_frame(alloc, chip, octets) {
-            Ok(begun) => {
-                *card = Some(begun);
-                Ok(Answer::Personalised)
-            }
-            Err(stop) => Err(stop),
-        },
+    match write_answer(answer, out) {
+        Ok(()) => Ok(()),
+        Err(NoMemory) => Err(PartStop::NoMemory),
+    }
+}
+
+// Appends the answer of a step, or tells why it has none.
+fn put_end(end: &StepEnd, out: &mut Row<u8>) -> Result<(), PartStop>
+    requires { IfOk (of_step end.now) IsAnswer }
+    ensures { Puts (of_step end.now) out.old out.new result }
+{
+    match end {
+        StepEnd::Answered(answer) => put(answer, out),
+        StepEnd::Lost | StepEnd::Dark => Err(PartStop::ChipFault),
+        StepEnd::NoMemory => Err(PartStop::NoMemory),
     }
 }
 
@@ -195,12 +175,15 @@ impl<C: Chip> Part<C> for CardPart {
         octets: &[u8],
         out: &mut Row<u8>,
     ) -> Result<(), PartStop> {
-        match reply(alloc, &mut self.card, outside, octets) {
-            Ok(answer) => match write_answer(&answer, out) {
-                Ok(()) => Ok(()),
-                Err(NoMemory) => Err(PartStop::NoMemory),
+        match &mut self.card {
+            Some(card) => put_end(&step(alloc, card, outside, octets), out),
+            None => match begin_by_frame(alloc, outside, octets) {
+                Ok(begun) => {
+                    self.card = Some(begun);
+                    put(&Answer::Personalised, out)
+                }
+                Err(stop) => Err(stop),
             },
-            Err(stop) => Err(stop),
         }
     }
 

@@ -1,22 +1,35 @@
-use Rattle.std.proofs.Common.{arith}
-use Rattle.es10_codec.specs.Spelling.{answer}
-use Rattle.es10_codec.proofs.AnswerCodec.{answer_few}
-use Rattle.lone_card.proofs.Answering.{answered, stopped, unwritten}
+use Rattle.std.proofs.Common.{Ok}
+use Rattle.small_card.specs.Ranges.{IsAnswer}
+use Rattle.small_card.specs.declared.types.Answer.TheVariants.{Personalised}
+use Rattle.run_loop.specs.declared.halt.PartStop.TheVariants.{ChipFault}
+use Rattle.lone_card.specs.Answering.{of_step}
+use Rattle.lone_card.proofs.Answering.{put_answers, stopped, begun_ready, cause_of_none, cause_of_reply, reply_begun, not_begun, begun_works, not_begun_works}
 use Rattle.lone_card.proofs.card.CardPartPart.answer.Goals as goal
 
-pub returns-in-Ok-write_answer-clause-answers : goal.returns-in-Ok-write_answer-clause-answers
-returns-in-Ok-write_answer-clause-answers g c = record {
-  content = answer c.in-Ok.answer;
-  appended = c.in-Ok-write_answer.ensures.ok;
-  short = omega (arith, answer_few c.in-Ok.answer c.in-Ok.ensures.range);
-  stands = λ first fs text led.
-      answered first.0.card c.args.self.now.card c.reply.new.card _ _ _ c.args.octets.now c.in-Ok.answer c.in-Ok.ensures.replied c.in-Ok.ensures.cause c.in-Ok.ensures.chip fs text led;
-}
+pub put-requires : goal.put-requires
+unfolding IsAnswer
+put-requires g c = tt
+
+pub returns-in-Some-clause-answers : goal.returns-in-Some-clause-answers
+returns-in-Some-clause-answers g c =
+    put_answers (λ x. x.0.card) (λ x. g.C.Chip.sees x.1) _ _ c.args.octets.now _ _ (of_step c.step.result) c.put_end.result (λ o s. c.step.ensures.replied o (rw c.in-Some.is at s)) c.step.ensures.cause (λ told o s. c.step.ensures.chip told o (rw c.in-Some.is at s)) c.step.ensures.range c.put_end.ensures
 
 pub returns-in-Ok-clause-answers : goal.returns-in-Ok-clause-answers
-returns-in-Ok-clause-answers g c = λ first fs text led.
-    unwritten first.0.card c.args.self.now.card c.reply.new.card _ _ _ c.args.octets.now c.in-Ok.answer c.in-Ok.ensures.replied c.in-Ok.ensures.cause c.in-Ok.ensures.chip fs text led
+unfolding IsAnswer
+returns-in-Ok-clause-answers g c =
+    put_answers (λ x. x.0.card) (λ x. g.C.Chip.sees x.1) _ _ c.args.octets.now _ _ (Ok Personalised) c.put.result
+    (λ o s. reply_begun c.in-Ok.begun o c.args.octets.now (rw c.in-None.is at s) c.in-Ok.ensures.begun)
+    (cause_of_reply ChipFault _ _ c.in-Ok.begun Personalised c.in-Ok.ensures.cause)
+    (λ told o s. begun_works c.in-Ok.begun o c.args.octets.now Personalised _ _ (rw c.in-None.is at s) (c.in-Ok.ensures.chip told))
+    tt c.put.ensures
 
-pub returns-clause-answers : goal.returns-clause-answers
-returns-clause-answers g c = λ first fs text led.
-    stopped first.0.card c.args.self.now.card c.reply.new.card _ _ _ c.args.octets.now c.in-Err.stop c.in-Err.ensures.replied c.in-Err.ensures.cause c.in-Err.ensures.chip fs text led
+pub returns-in-Ok-clause-ready : goal.returns-in-Ok-clause-ready
+returns-in-Ok-clause-ready g c = begun_ready c.put.result c.in-Ok.begun _ _ c.in-Ok.ensures.begun c.in-Ok.ensures.settled
+
+pub returns-in-Err-clause-answers : goal.returns-in-Err-clause-answers
+returns-in-Err-clause-answers g c = λ first fs text led.
+    stopped first.0.card c.args.self.now.card c.args.self.now.card _ _ _ c.args.octets.now c.in-Err.stop
+    (λ o s. not_begun o c.args.octets.now c.in-Err.stop c.args.self.now.card (rw c.in-None.is at s) c.in-Err.ensures.begun)
+    (cause_of_none ChipFault c.in-Err.stop _ _ c.in-Err.ensures.cause)
+    (λ told o s. not_begun_works o c.args.octets.now c.in-Err.stop _ _ (rw c.in-None.is at s) (c.in-Err.ensures.chip told))
+    fs text led

@@ -1,34 +1,25 @@
-use Rattle.std.proofs.Common.{◌≡◌, ◌∙◌, sym, subst, Some, None}
+use Rattle.std.proofs.Common.{◌≡◌, ◌∙◌, None}
 use Rattle.small_card.specs.declared.types.Answer.TheVariants.{Malformed}
-use Rattle.std.specs.Prelude.{Result}
 use Rattle.small_card.specs.Ranges.{IsAnswer}
-use Rattle.small_card.specs.declared.types.Answer.{Answer}
-use Rattle.run_loop.specs.declared.halt.PartStop.{PartStop}
 use Rattle.es10_codec.specs.Reading.{command_at}
-use Rattle.lone_card.specs.Answering.{Replied}
-use Rattle.lone_card.specs.Benches.{Works}
 use Rattle.lone_card.proofs.Chips.{idle}
 use Rattle.lone_card.proofs.Replying.{step_replied, step_cause, step_range, step_works, not_a_command, none_works}
-use Rattle.lone_card.proofs.card.reply_of.Goals as goal
+use Rattle.lone_card.proofs.card.step.Goals as goal
 
 pub returns-in-Ok-clause-cause : goal.returns-in-Ok-clause-cause
-returns-in-Ok-clause-cause g c =
-    rw c.answer_of.ensures (step_cause c.step.result c.args.card.now _ _ c.requires c.step.ensures.dark.0 c.step.ensures.cause)
+returns-in-Ok-clause-cause g c = step_cause c.step.result c.args.card.now _ _ c.requires c.step.ensures.dark.0 c.step.ensures.cause
 
 pub returns-in-Ok-clause-replied : goal.returns-in-Ok-clause-replied
-returns-in-Ok-clause-replied g c = λ o s.
-    subst (λ (r : Result Answer PartStop). Replied o c.args.octets.now (Some c.step.new.self) r) (sym c.answer_of.ensures)
-    (step_replied c.args.octets.now c.in-Ok.command c.step.result c.args.card.now c.step.new.self c.in-Ok.ensures.exact c.step.ensures.steps o s)
+returns-in-Ok-clause-replied g c = step_replied c.args.octets.now c.in-Ok.command c.step.result c.args.card.now c.step.new.self c.in-Ok.ensures.exact c.step.ensures.steps
 
 pub returns-in-Ok-clause-range : goal.returns-in-Ok-clause-range
-returns-in-Ok-clause-range g c = rw c.answer_of.ensures (step_range c.step.result (c.step.ensures.range c.in-Ok.ensures.found.0))
+returns-in-Ok-clause-range g c = step_range c.step.result (c.step.ensures.range c.in-Ok.ensures.found.0)
 
 pub returns-in-Ok-clause-chip : goal.returns-in-Ok-clause-chip
 returns-in-Ok-clause-chip g c = λ told o s.
     let before = g.met.C.Chip.sound c.args.chip.now told in
     let now = g.met.C.Chip.sound c.step.new.chip (c.step.ensures.cause.told ∙ told) in
-    subst (λ (r : Result Answer PartStop). Works o c.args.octets.now r (g.C.Chip.sees c.args.chip.now) (g.C.Chip.sees c.step.new.chip)) (sym c.answer_of.ensures)
-    (step_works c.args.octets.now c.in-Ok.command c.step.result c.args.card.now _ _ c.in-Ok.ensures.exact before now told (c.step.ensures.chip told) o s)
+    step_works c.args.octets.now c.in-Ok.command c.step.result c.args.card.now _ _ c.in-Ok.ensures.exact before now told (c.step.ensures.chip told) o s
 
 pub returns-in-Err-Malformed-clause-replied : goal.returns-in-Err-Malformed-clause-replied
 returns-in-Err-Malformed-clause-replied g c =
