@@ -24,7 +24,7 @@ use Rattle.run_loop.specs.declared.halt.PartStop.TheVariants.{ChipFault, Malform
 use Rattle.lone_card.specs.Cards.{reply_to, after_frame, history_of, sent_for, output}
 use Rattle.lone_card.specs.Marks.{unit_in, opened, marks_after, marks_of}
 use Rattle.lone_card.specs.Answering.{StandsFor, Replied, IsBegun, BegunBy, Puts}
-use Rattle.lone_card.specs.Benches.{Rests, GoesOn, BreaksOff, Works, Makes, IsReady}
+use Rattle.lone_card.specs.Benches.{Rests, GoesOn, BreaksOff, Works, Makes, IsLitPart, IsReady}
 use Rattle.lone_card.specs.Walks.{IsLater, ChipLed, LedTo, ChipBroke, ChipRests, ChipStopped, StoppedAt}
 use Rattle.lone_card.specs.Starting.{stands_rightful}
 use Rattle.lone_card.proofs.Histories.{history_of-push, output-push, begins-push}
@@ -188,3 +188,11 @@ put_answers card chip old new f out out' (Ok a) (Err stop) did cause works range
 put_answers card chip old new f out out' (Err reason) (Ok done) did cause works range put = absurd put
 put_answers card chip old new f out out' (Err reason) (Err stop) did cause works range put = λ first fs text led.
     subst (λ s. StoppedAt (card first) (chip first) (chip new) fs text f s) (sym put) (stopped (card first) (card old) (card new) _ _ _ f reason did cause works fs text led)
+
+-- a card whose reply was put can answer the next frame
+pub put_ready : (now now' : Option (Option FullCard)) (s t : Seen) (f out out' : List ℕ) (reply : Result Answer PartStop) (result : Result (Unit {0}) PartStop)
+    → IsReady now s → ((o : Option History) → StandsFor now o → Replied o f now' reply) → IfTold t (IsLitPart now' t) → Puts reply out out' result → OnOk result (IsReady now' t)
+put_ready now now' s t f out out' (Ok a) (Ok done) ready did lit put =
+    record { there = (after_frame ready.there.0 f, (did ready.there.0 ready.there.1).1); settled = lit }
+put_ready now now' s t f out out' (Err reason) (Ok done) ready did lit put = absurd put
+put_ready now now' s t f out out' reply (Err stop) ready did lit put = tt

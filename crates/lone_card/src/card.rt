@@ -1,15 +1,17 @@
 //! The card as a part of a run: what stands on its chip, or none until its first frame makes one.
 
-ghost use Rattle.std.specs.Prelude.{◌≡◌, Option, Some, None, Ok, IfOk};
+ghost use Rattle.std.specs.Prelude.{◌≡◌, Some, None, Ok, IfOk, OnOk};
 ghost use Rattle.chip_port.specs.Rules.{IfTold};
-ghost use Rattle.small_card.specs.Histories.{History};
 ghost use Rattle.small_card.specs.Ranges.{IsAnswer, IsCommand};
 ghost use Rattle.small_card.specs.declared.types.Command.TheVariants as command;
 ghost use Rattle.card_store.specs.Looking.{HasCauseOf};
 ghost use Rattle.euicc_core.specs.Steps.{IsLitOn};
 ghost use Rattle.es10_codec.specs.Reading.{command_at};
-ghost use Rattle.lone_card.specs.Answering.{StandsFor, Replied, BegunBy, of_step, Puts};
-ghost use Rattle.lone_card.specs.Benches.{IsReady, Works, Makes};
+ghost use Rattle.run_loop.specs.Parts.{Answers};
+ghost use Rattle.lone_card.specs.declared.card.CardPart.{CardPart};
+ghost use Rattle.lone_card.specs.Walks.{LedTo, StoppedAt};
+ghost use Rattle.lone_card.specs.Answering.{BegunBy, of_step, Puts};
+ghost use Rattle.lone_card.specs.Benches.{IsReady, Makes};
 
 use chip_port::Chip;
 use es10_codec::{read_command, write_answer};
@@ -112,26 +114,6 @@ fn begin_by_frame<C: Chip>(
     }
 }
 
-// How a step ends with the frame of a card that is there. A frame that is no command is answered and
-// changes nothing.
-fn step<C: Chip>(alloc: Global, card: &mut EuiccCard, chip: &mut C, octets: &[u8]) -> StepEnd
-    requires { IsReady (Some card.old) (C.sees chip.old) }
-    ensures cause { HasCauseOf PartStop.ChipFault (C.sees chip.old) (C.sees chip.new)
-        (of_step result) }
-    ensures replied { (o : Option History) → StandsFor (Some card.old) o
-        → Replied o octets.now (Some card.new) (of_step result) }
-    ensures range { IfOk (of_step result) IsAnswer }
-    ensures settled { IfTold (C.sees chip.new) (IsLitOn card.new (C.sees chip.new)) }
-    ensures chip { IfTold (C.sees chip.old) ((o : Option History) → StandsFor (Some card.old) o
-        → Works o octets.now (of_step result) (C.sees chip.old) (C.sees chip.new)) }
-{
-    match read_command(alloc, octets) {
-        Ok(command) => card.step(alloc, chip, &command),
-        Err(ReadError::Malformed) => StepEnd::Answered(Answer::Malformed),
-        Err(ReadError::NoMemory) => StepEnd::NoMemory,
-    }
-}
-
 // Appends an answer.
 fn put(answer: &Answer, out: &mut Row<u8>) -> Result<(), PartStop>
     requires { IsAnswer answer.now }
@@ -152,6 +134,34 @@ fn put_end(end: &StepEnd, out: &mut Row<u8>) -> Result<(), PartStop>
         StepEnd::Answered(answer) => put(answer, out),
         StepEnd::Lost | StepEnd::Dark => Err(PartStop::ChipFault),
         StepEnd::NoMemory => Err(PartStop::NoMemory),
+    }
+}
+
+impl CardPart {
+    // Answers a first frame by the card that it makes.
+    fn answer_first<C: Chip>(
+        &mut self,
+        alloc: Global,
+        chip: &mut C,
+        octets: &[u8],
+        out: &mut Row<u8>,
+    ) -> Result<(), PartStop>
+        requires { self.old.card ≡ None }
+        ensures answers { Answers
+            (λ (first : CardPart × C) now fs text. LedTo first.0.card (C.sees first.1)
+            now.0.card (C.sees now.1) fs text)
+            (λ first now fs text f stop. StoppedAt first.0.card (C.sees first.1) (C.sees now.1)
+            fs text f stop)
+            (self.old, chip.old) (self.new, chip.new) octets.now out.old out.new result }
+        ensures ready { OnOk result (IsReady self.new.card (C.sees chip.new)) }
+    {
+        match begin_by_frame(alloc, chip, octets) {
+            Ok(begun) => {
+                self.card = Some(begun);
+                put(&Answer::Personalised, out)
+            }
+            Err(stop) => Err(stop),
+        }
     }
 }
 
@@ -176,13 +186,11 @@ impl<C: Chip> Part<C> for CardPart {
         out: &mut Row<u8>,
     ) -> Result<(), PartStop> {
         match &mut self.card {
-            Some(card) => put_end(&step(alloc, card, outside, octets), out),
-            None => match begin_by_frame(alloc, outside, octets) {
-                Ok(begun) => {
-                    self.card = Some(begun);
-                    put(&Answer::Personalised, out)
-                }
-                Err(stop) => Err(stop),
+            None => self.answer_first(alloc, outside, octets, out),
+            Some(card) => match read_command(alloc, octets) {
+                Ok(command) => put_end(&card.step(alloc, outside, &command), out),
+                Err(ReadError::Malformed) => put(&Answer::Malformed, out),
+                Err(ReadError::NoMemory) => Err(PartStop::NoMemory),
             },
         }
     }
